@@ -1,2 +1,4 @@
 pub mod Classes
+pub mod Blanklaws
 pub mod Wordlaws
+pub mod Readlaws

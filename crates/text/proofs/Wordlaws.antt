@@ -1,17 +1,20 @@
 -- Words and names at a place of a text. Assumes nothing.
-use mathlib.Core.Path.{_≡_, refl}
-use mathlib.Core.Bool.{Bool, true, false, not, _&&_}
+use mathlib.Core.Path.{_≡_, refl, sym}
+use mathlib.Core.Bool.{Bool, true, false, not, cond, _&&_}
 use mathlib.Core.List.{List, [], _∷_}
-use Prim.Native.Nat.{ℕ, suc, _+_, _≤_, _<_}
+use Prim.Native.Nat.{ℕ, suc, _+_, _-_, _≤_, _<_}
 use native.Mathlib.Numerals.{add-one}
+use native.Mathlib.Nat.{add-zero}
 use native.Mathlib.Omega.{arith}
 use mathlib.Core.Logic.{⊎-elim}
 use lib.Dec.{eqb, leb}
-use borrow.Author.Tests.{lt-leb, le-leb}
-use Rattle.base.proofs.Bools.{lt-or-ge}
-use lib.ListN.{drop, length, getD, drop-of-length-le}
-use lib.Seq.{drop-cons}
+use borrow.Author.Tests.{lt-leb, le-leb, eqb-true}
+use Rattle.base.proofs.Bools.{lt-or-ge, both, clash}
+use lib.ListN.{take, drop, length, getD, length-drop, drop-of-length-le}
+use lib.Seq.{drop-cons, drop-drop, take-all, take-nil}
 use Rattle.text.specs.Bytes.{starts, inName}
+use Rattle.text.specs.Reader.{got, run, with}
+use Rattle.text.specs.Places.{part}
 use Rattle.text.specs.Words.{same, member, keywords, allInName, isName}
 
 module _ (a b : List ℕ) (i : ℕ) where
@@ -44,3 +47,53 @@ pub name-nil : (t : List ℕ) → length t ≡ 0 → isName t ≡ false
 unfolding isName
 name-nil [] h = refl
 name-nil (b ∷ l) h = absurd (omega arith)
+
+-- equal words are one word
+pub same-eq : (v w : List ℕ) → same v w ≡ true → v ≡ w
+same-eq [] [] e = refl
+same-eq [] (y ∷ m) e = clash (sym e)
+same-eq (x ∷ l) [] e = clash (sym e)
+same-eq (x ∷ l) (y ∷ m) e =
+    let h = both (eqb x y) (same l m) e in
+    let a = eqb-true x y (h .0) in
+    let b = same-eq l m (h .1) in
+    cc
+
+-- ---- parts of a text
+
+module _ (t : List ℕ) (a e : ℕ) where
+  pub part-none : e ≤ a → part t a e ≡ []
+  part-none h = let n : e - a ≡ 0 = omega arith in rw n
+
+  pub part-past : length t ≤ a → part t a e ≡ []
+  part-past h = rw (drop-of-length-le t h, take-nil)
+
+  pub part-long : length t ≤ e → part t a e ≡ part t a (length t)
+  part-long h = rw (take-all (e - a) (drop a t) (omega (arith, length-drop a t)), take-all (length t - a) (drop a t) (omega (arith, length-drop a t)))
+
+-- how long the longest run of name bytes is
+abbrev pub runLength : List ℕ → ℕ
+runLength [] = 0
+runLength (b ∷ l) = cond (inName b) (suc (runLength l)) 0
+
+run-is : (k : ℕ) (s : List ℕ) → run k s ≡ got (take (runLength s) s) (k + runLength s) (drop (runLength s) s)
+run-is k [] = rw add-zero
+run-is k (b ∷ l) = go (inName b) (run-is (suc k) l)
+  where
+    go : (c : Bool) → run (suc k) l ≡ got (take (runLength l) l) (suc k + runLength l) (drop (runLength l) l) →
+        cond c (with b (run (suc k) l)) (got [] k (b ∷ l)) ≡ got (take (cond c (suc (runLength l)) 0) (b ∷ l)) (k + cond c (suc (runLength l)) 0) (drop (cond c (suc (runLength l)) 0) (b ∷ l))
+    go true e = let h : k + suc (runLength l) ≡ suc k + runLength l = omega arith in rw (e, h)
+    go false e = rw add-zero
+
+-- a word is a part of the text
+pub run-end : (t : List ℕ) (i r : ℕ) → r ≡ i + runLength (drop i t) → run i (drop i t) ≡ got (part t i r) r (drop r t)
+run-end t i r e =
+    let h : r - i ≡ runLength (drop i t) = omega arith in
+    rw (h, run-is i (drop i t), drop-drop, ← e)
+
+module _ (t : List ℕ) (i : ℕ) where
+  pub run-cons : i < length t → runLength (drop i t) ≡ cond (inName (getD t i 0)) (suc (runLength (drop (i + 1) t))) 0
+  run-cons h = rw (add-one, drop-cons t i 0)
+
+  pub run-nil : length t ≤ i → runLength (drop i t) ≡ 0
+  run-nil h = rw (drop-of-length-le t h)

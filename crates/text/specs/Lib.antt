@@ -2,3 +2,4 @@ pub mod Bytes
 pub mod Words
 pub mod Blanks
 pub mod Reader
+pub mod Places
