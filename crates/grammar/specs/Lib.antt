@@ -1,0 +1,4 @@
+pub mod Contradict
+pub mod Header
+pub mod Rows
+pub mod Reading
