@@ -1,0 +1,3 @@
+pub mod Contradiction
+pub mod Rows
+pub mod Exact
