@@ -107,11 +107,11 @@ start-of-byte V1 = refl
 start-of-byte Vx = refl
 
 module _ (t : Table) (s : Shaped t) where
-  count-of : getD (encode t) countAt 0 ≡ length (t .rows)
+  pub count-of : getD (encode t) countAt 0 ≡ length (t .rows)
   unfolding areaByte
   count-of = encode-at t countAt (omega arith)
 
-  inputs-of : getD (encode t) inputsAt 0 ≡ t .inputs
+  pub inputs-of : getD (encode t) inputsAt 0 ≡ t .inputs
   unfolding areaByte
   inputs-of = encode-at t inputsAt (omega arith)
 

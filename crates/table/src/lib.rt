@@ -128,13 +128,13 @@ pub fn output_in(a: &[u8], i: usize) -> Output
     symbol::output_of(byte_at(a, ROWS_AT + i * ROW_SIZE + OUTPUT_AT))
 }
 
-fn kind_byte(sequential: bool) -> u8
+pub fn kind_byte(sequential: bool) -> u8
     ensures { λ r. ⌜ r ≡ kindByte sequential ⌝ }
 {
     if sequential { b's' } else { b'c' }
 }
 
-fn symbol_part(s: Symbol, m: usize) -> u8
+pub fn symbol_part(s: Symbol, m: usize) -> u8
     ensures { λ r. ⌜ r ≡ symbolPart s m ⌝ }
 {
     if m == 0 {

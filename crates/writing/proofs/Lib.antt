@@ -1,0 +1,2 @@
+pub mod Headlaws
+pub mod Rowlaws
