@@ -1,0 +1,9 @@
+pub mod Post
+pub mod Fits
+pub mod Gives
+pub mod Prints
+pub mod Exactly
+pub mod Enough
+pub mod Flags
+pub mod Moves
+pub mod Tests

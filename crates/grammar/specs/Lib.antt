@@ -1,4 +1,4 @@
-pub mod Contradict
 pub mod Header
 pub mod Rows
 pub mod Reading
+pub mod Print

@@ -1,4 +1,5 @@
 -- Reading one primitive: document 01, "Reading one primitive" and "Numbers of the refusals", 1 to 9.
+use mathlib.Core.Path.{_≡_}
 use mathlib.Core.List.{List, [], _∷_}
 use mathlib.Core.Bool.{cond, not}
 use Prim.Native.Nat.{ℕ}
@@ -12,7 +13,7 @@ use Rattle.symbol.specs.Stored.{outputByte}
 use Rattle.table.specs.Table.{Table}
 use Rattle.text.specs.Bytes.{bytes}
 use Rattle.text.specs.Reader.{Result, got, refused, Reader, _>>=_, _>>_, give, skip, keyword, name, basics}
-use Rattle.grammar.specs.Contradict.{contradict}
+use Rattle.formed.specs.Tests.{sameOutput, levelsMeet, columnsMeet, contradict}
 use Rattle.grammar.specs.Header.{ports, portList, inputList, constant, initial, declarations, declared}
 use Rattle.grammar.specs.Rows.{saying, written, field, columns, state, row, agrees, rows}
 
@@ -48,7 +49,11 @@ read text start =
     (cond (not (leb start (length text))) (refusal 3 (length text))
     (orEnd (skip start (drop start text))))
 
+-- some text, read from some place, gives the table
+abbrev pub Readable : Table → Type 0
+Readable t = (text : List ℕ) × (start : ℕ) × (next : ℕ) × (read text start ≡ table t next)
+
 -- `unfolding readers` opens every reader, and what they ask of rows and symbols
 unfoldable pub readers : Unit {0}
-unfolding basics ports portList inputList constant initial declarations declared saying written field columns state row rows primitive read agrees contradict every some rankOf valueOf sameValue matchLevel matchEdge matchHeld matchChange isEdge offered meet possible outputByte
+unfolding basics ports portList inputList constant initial declarations declared saying written field columns state row rows primitive read agrees contradict sameOutput levelsMeet columnsMeet every some rankOf valueOf sameValue matchLevel matchEdge matchHeld matchChange isEdge offered meet possible outputByte
 readers = tt

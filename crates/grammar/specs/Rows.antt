@@ -15,7 +15,7 @@ use Rattle.symbol.specs.Match.{isEdge, possible}
 use Rattle.table.specs.Table.{Row, noRow}
 use Rattle.text.specs.Bytes.{bytes, is, letter, isSymbol}
 use Rattle.text.specs.Reader.{Reader, _>>=_, _>>_, give, if, check, need, here, skip, byte, said, ahead, sign, keyword}
-use Rattle.grammar.specs.Contradict.{contradict}
+use Rattle.formed.specs.Tests.{contradict}
 
 -- ---- symbols as they are written, in small letters or capitals
 
