@@ -491,22 +491,29 @@ pub fn skip_from(text: &[u8], at: usize) -> usize
     i
 }
 
-// What stands at a place is not expected.
-pub fn fault_at(text: &[u8], at: usize) -> Step
-    ensures { λ r. ⌜ r ≡ Refused (cond (endless (drop at (now (text .entry)))) 2 3) at ⌝ }
+// The number of the refusal where what stands at a place is not expected.
+pub fn fault_number(text: &[u8], at: usize) -> u8
+    ensures { λ r. ⌜ r ≡ cond (endless (drop at (now (text .entry)))) 2 3 ⌝ }
 {
     if two_at(text, at, b'/', b'*') {
         let c = to_close(text, at + 2);
         match c {
             Close::After(_) => {
-                return Step::Refused(3, at);
+                return 3;
             }
             Close::Never => {
-                return Step::Refused(2, at);
+                return 2;
             }
         }
     }
-    Step::Refused(3, at)
+    3
+}
+
+// What stands at a place is not expected.
+pub fn fault_at(text: &[u8], at: usize) -> Step
+    ensures { λ r. ⌜ r ≡ Refused (cond (endless (drop at (now (text .entry)))) 2 3) at ⌝ }
+{
+    Step::Refused(fault_number(text, at), at)
 }
 
 // The byte c, behind blanks.

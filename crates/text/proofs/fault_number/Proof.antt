@@ -6,11 +6,11 @@ use Rattle.text.specs.Places.{closing}
 use Rattle.text.proofs.Blanklaws.{two-long, endless-yes, endless-no}
 use native.Mathlib.Omega.{arith}
 use borrow.Author.Needs.{needs}
-use Rattle.text.proofs.fault_at.Statement.{statement}
-use Rattle.text.proofs.fault_at.Tie as tie
+use Rattle.text.proofs.fault_number.Statement.{statement}
+use Rattle.text.proofs.fault_number.Tie as tie
 
-pub fault-at-spec : {M : Type 1} → statement M
-fault-at-spec =
+pub fault-number-spec : {M : Type 1} → statement M
+fault-number-spec =
     tie.close
     (tie.spec
     (λ c κs. search needs)
