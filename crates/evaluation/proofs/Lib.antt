@@ -1,3 +1,4 @@
 pub mod Laws
 pub mod Bridge
 pub mod Saying
+pub mod Checked
