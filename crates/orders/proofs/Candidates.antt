@@ -23,6 +23,13 @@ value-rank V0 = refl
 value-rank V1 = refl
 value-rank Vx = refl
 
+pub rank-value : (k : ℕ) → k < 3 → rankOf (valueOf k) ≡ k
+unfolding valueOf rankOf
+rank-value zero h = refl
+rank-value (suc zero) h = refl
+rank-value (suc (suc zero)) h = refl
+rank-value (suc (suc (suc k))) h = absurd (omega arith)
+
 pub rank-low : (x : Ternary) → rankOf x < 3
 unfolding rankOf
 rank-low V0 = omega arith

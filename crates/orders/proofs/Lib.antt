@@ -4,4 +4,5 @@ pub mod Pairs
 pub mod Neighbours
 pub mod Whole
 pub mod Candidates
+pub mod Digits
 pub mod Answers
