@@ -2,25 +2,29 @@
 use Prim.Native.Nat.{ℕ, zero, suc, _≤_, _<_}
 use mathlib.Core.Path.{_≡_, refl, sym, _∙_}
 use mathlib.Core.Logic.{_≢_, _↔_, ⊎-elim}
-use mathlib.Core.Bool.{Bool, true, false, _||_}
+use mathlib.Core.Bool.{Bool, true, false, _&&_, _||_}
 use mathlib.Core.List.{List, [], _∷_, map}
 use native.Mathlib.Nat.{pos-of-ne-zero}
 use native.Mathlib.Omega.{arith}
 use lib.Dec.{eqb, ltb}
 use lib.ListN.{length, getD, length-map, List·getD-eq-default}
 use borrow.Author.Tests.{eqb-true, eqb-false, eq-eqb, ne-eqb, le-ltb, ltb-false}
-use Rattle.base.specs.Search.{some}
+use Rattle.base.specs.Search.{every, some}
 use Rattle.base.proofs.Search.{some-at, some-none, first-none, first-below}
-use Rattle.base.proofs.Bools.{clash, lt-or-ge}
+use Rattle.base.proofs.Bools.{both, clash, lt-or-ge}
 use Rattle.base.specs.Listed.{listed}
 use Rattle.base.specs.Limits.{inputLimit}
 use Rattle.base.proofs.Listed.{listed-length, listed-at, listed-past}
 use Rattle.value.specs.declared.Ternary.{Ternary}
 use Rattle.value.specs.declared.Ternary.the-variants.{V0}
 use Rattle.orders.specs.Vectors.{at}
-use Rattle.orders.specs.Order.{Order}
-use Rattle.evaluation.specs.Called.{valueIn, vectorIn, padded, faulty, firstFault}
-use Rattle.evaluation.proofs.Laws.{Alike}
+use Rattle.orders.specs.Order.{Order, evalOrder}
+use Rattle.evaluation.specs.Called.{isValue, goodVector, goodValues, valueIn, vectorIn, padded, faulty, firstFault}
+use Rattle.table.specs.Area.{decode}
+use Rattle.formed.specs.Tests.{wellFormed}
+use Rattle.formed.proofs.Exact.{formed-valid}
+use Rattle.evaluation.specs.Step.{stepOf}
+use Rattle.evaluation.proofs.Laws.{Alike, eval-alike}
 
 pub vector-length : (s : List ℕ) → length (vectorIn s) ≡ length s
 unfolding vectorIn
@@ -80,3 +84,19 @@ fault-of n l o = first-none (faulty n l) (length l) (λ k g.
     let z : eqb (getD l k 0) 0 ≡ false = ne-eqb (getD l k 0) 0 (λ e. omega (arith, i .0)) in
     let t : ltb n (getD l k 0) ≡ false = le-ltb n (getD l k 0) (i .1) in
     rw (z, t, s))
+
+-- the code's padded vectors give what the vectors give
+pub call-output : (area prev cur order : List ℕ) (old : ℕ) (v r : Ternary) → wellFormed area ≡ true → goodValues (decode area .inputs) prev cur old ≡ true →
+    r ≡ evalOrder (stepOf (decode area)) (padded (vectorIn prev)) (padded (vectorIn cur)) v order →
+    r ≡ evalOrder (stepOf (decode area)) (vectorIn prev) (vectorIn cur) v order
+unfolding goodValues goodVector
+call-output area prev cur order old v r w g e =
+    let n : ℕ = decode area .inputs in
+    let p = both (eqb (length prev) n && every (length prev) (λ (k : ℕ). isValue (getD prev k 0))) _ g in
+    let q = both (eqb (length cur) n && every (length cur) (λ (k : ℕ). isValue (getD cur k 0))) _ (p .1) in
+    let lp : length (vectorIn prev) ≡ n = vector-length prev ∙ eqb-true (length prev) n (both (eqb (length prev) n) _ (p .0) .0) in
+    let lc : length (vectorIn cur) ≡ n = vector-length cur ∙ eqb-true (length cur) n (both (eqb (length cur) n) _ (q .0) .0) in
+    let most : n ≤ inputLimit = formed-valid area w .most-inputs in
+    e
+    ∙ eval-alike (decode area) order v (padded-length (vectorIn prev) ∙ sym (padded-length (vectorIn cur))) (lp ∙ sym lc)
+    (padded-alike (vectorIn prev) (omega arith)) (padded-alike (vectorIn cur) (omega arith))

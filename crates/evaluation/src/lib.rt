@@ -12,6 +12,7 @@ ghost use Rattle.table.specs.Area.{decode};
 ghost use Rattle.orders.specs.Vectors.{at, put};
 ghost use Rattle.orders.specs.Order.{evalOrder};
 ghost use Rattle.evaluation.specs.Step.{rowFor, answerOf, stepOf};
+ghost use Rattle.evaluation.specs.Call.{evaluated};
 ghost use Rattle.evaluation.specs.Called.{isValue, valueIn, goodVector, goodValues, vectorIn, padded, faulty, firstFault};
 use symbol::Field;
 use value::Byte;
@@ -122,18 +123,19 @@ fn result_in(a: &[u8], i: usize, old: Ternary) -> Ternary
     symbol::result_of(table::output_in(a, i), old)
 }
 
-// Column k has changed from `from`; v has it at its current value and all others at their previous one.
+// Input j has changed from `from`; v has it at its current value and all others at their previous one.
 fn answer(a: &[u8], v: [Ternary; base::INPUTS], j: usize, from: Ternary, old: Ternary) -> Ternary
     requires { ⌜ 1 ≤ j ⌝ }
     ensures { λ r. ⌜ r ≡ answerOf (decode (now (a .entry))) v j from old ⌝ }
 {
     let m = table::rows(a);
     let n = table::inputs(a);
+    let k = j - 1;
     let level = row_for(a, v, n, from, old);
     if level < m {
         return result_in(a, level, old);
     }
-    let edge = row_for(a, v, j - 1, from, old);
+    let edge = row_for(a, v, k, from, old);
     if edge < m {
         return result_in(a, edge, old);
     }
@@ -284,4 +286,34 @@ fn first_fault(n: usize, l: &[u8]) -> usize
         k += 1;
     }
     k
+}
+
+// What evaluation of an order answers: the output, or a refusal with its number and place.
+pub enum Evaluated {
+    Output(Ternary),
+    Refused(u8, usize),
+}
+
+// Evaluates a lent table along an order, from the previous to the current vector.
+pub fn evaluate(area: &[u8], prev: &[u8], cur: &[u8], old: u8, order: &[u8]) -> Evaluated
+    ensures { λ r. ⌜ r ≡ evaluated (now (area .entry)) (now (prev .entry)) (now (cur .entry)) old (now (order .entry)) ⌝ }
+{
+    if !formed::well_formed(area) {
+        return Evaluated::Refused(10, 0);
+    }
+    let n = table::inputs(area);
+    if !good_values(n, prev, cur, old) {
+        return Evaluated::Refused(11, 0);
+    }
+    let fault = first_fault(n, order);
+    if fault < order.len() {
+        return Evaluated::Refused(12, fault);
+    }
+    Evaluated::Output(follow(
+        area,
+        vector_in(prev),
+        vector_in(cur),
+        value_said(old),
+        order,
+    ))
 }

@@ -12,10 +12,10 @@ answer-spec =
     (tie.spec
     (λ c κs. search needs)
     (λ c κs. search needs)
+    (λ c. omega arith)
     (λ c κs. search needs)
     (λ c κs. search needs)
     (λ c. let l = rw (c .before .before .before .inputs .ensures) at (c .before .before .row-for .ensures) in rw (← l, ← c .before .before .before .before .rows .ensures, lt-ltb _ _ (c .before .if1 .taken)) (c .result-in .ensures))
-    (λ c. omega arith)
     (λ c κs. search needs)
     (λ c κs. search needs)
     (λ c. let l = rw (c .before .before .before .before .before .inputs .ensures) at (c .before .before .before .before .row-for .ensures) in rw (← l, ← c .before .before .before .before .before .before .rows .ensures, le-ltb _ _ (c .before .before .before .if1 .left), ← c .before .before .row-for2 .ensures, lt-ltb _ _ (c .before .if2 .taken)) (c .result-in2 .ensures))
