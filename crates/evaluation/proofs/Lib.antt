@@ -1,0 +1,5 @@
+pub mod Laws
+pub mod Bridge
+pub mod Saying
+pub mod Answering
+pub mod Checked

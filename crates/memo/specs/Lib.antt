@@ -1,0 +1,2 @@
+pub mod Memo
+pub mod Rows

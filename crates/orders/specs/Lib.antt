@@ -1,0 +1,4 @@
+pub mod Vectors
+pub mod Order
+pub mod Pairs
+pub mod Verdict

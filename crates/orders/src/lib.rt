@@ -1,0 +1,1 @@
+// Pure theory: the definitions are in specs/, the theorems in proofs/.
