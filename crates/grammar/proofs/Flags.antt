@@ -1,13 +1,12 @@
 -- What a code that keeps a flag for each port is proved by: the ports not yet declared are those whose flag is down. And what a loop over columns is
 -- proved by. Assumes nothing.
-use mathlib.Core.Path.{_≡_, refl, sym, ap, _∙_}
+use mathlib.Core.Path.{_≡_, refl, sym, _∙_}
 use mathlib.Core.List.{List, [], _∷_, _++_, append-assoc}
-use mathlib.Core.Bool.{Bool, true, false, not, cond, _&&_, _||_}
+use mathlib.Core.Bool.{Bool, true, false, not, cond, _||_}
 use mathlib.Core.Option.{Option, none, some}
 use Prim.Native.Nat.{ℕ, zero, suc}
 use native.Mathlib.Omega.{arith}
 use borrow.Author.Tests.{not-true, eq-eqb}
-use lib.Dec.{eqb}
 use lib.ListN.{length, getD, set}
 use Rattle.base.specs.Limits.{inputLimit}
 use Rattle.base.proofs.Bools.{and, clash}

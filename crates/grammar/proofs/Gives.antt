@@ -3,28 +3,26 @@ use mathlib.Core.Path.{_≡_, refl, sym, ap, _∙_}
 use mathlib.Core.List.{List, [], _∷_, _++_}
 use mathlib.Core.Bool.{Bool, true, false, not, cond, _&&_}
 use mathlib.Core.Option.{Option, none, some}
-use Prim.Native.Nat.{ℕ, zero, suc, _+_, _≤_, _<_}
+use Prim.Native.Nat.{ℕ, zero, suc, _+_, _≤_}
 use native.Mathlib.Omega.{arith}
 use lib.Dec.{leb}
 use lib.ListN.{length, drop, length-append}
-use Rattle.base.specs.Limits.{inputLimit, rowLimit, nameLimit, textLimit}
+use Rattle.base.specs.Limits.{inputLimit, rowLimit, textLimit}
 use Rattle.base.proofs.Bools.{and, clash}
 use Rattle.value.specs.declared.Ternary.the-variants.{Vx}
 use Rattle.symbol.specs.declared.Level.{Level}
 use Rattle.symbol.specs.declared.Level.the-variants.{Zero, One, Unknown, Binary, Any}
-use Rattle.symbol.specs.declared.Symbol.{Symbol}
 use Rattle.symbol.specs.declared.Output.{Output}
 use Rattle.symbol.specs.declared.Output.the-variants.{Out0, Out1, Outx, Old}
 use Rattle.symbol.specs.Match.{isEdge}
 use Rattle.symbol.specs.Stored.{outputByte}
-use Rattle.table.specs.Table.{Row, Table, rowAt}
+use Rattle.table.specs.Table.{Row, Table}
 use Rattle.text.specs.Words.{isName, nameFits}
 use Rattle.text.specs.Reader.{Result, got, refused, Reader, bind, give, fault, skip, run, word, Named, name}
 use Rattle.formed.specs.Valid.{ValidRow, Valid}
-use Rattle.formed.specs.Tests.{contradict}
 use Rattle.formed.proofs.Contradiction.{contradict-of}
-use Rattle.grammar.specs.Header.{ports, portList, Ports, Declared, declared, declarations, declarationRoom, initial, inputList, remove}
-use Rattle.grammar.specs.Rows.{Written, symbol, dash, mayStand, columnOf, stateOf, levelIn, levelOut, outputSaid, saying, field, columns, state, row, noRows, agrees, rows}
+use Rattle.grammar.specs.Header.{ports, portList, Ports, Declared, declared, declarations, declarationRoom, initial, remove}
+use Rattle.grammar.specs.Rows.{Written, symbol, dash, mayStand, columnOf, levelIn, levelOut, outputSaid, saying, field, columns, state, row, noRows, rows}
 use Rattle.grammar.specs.Reading.{primitive, Reading, table, end, refusal, outcome, orEnd, read}
 use Rattle.grammar.proofs.Post.{Post, Says, Gives, after, past, given, refuses, faults, checked, branch, needed}
 use Rattle.grammar.proofs.Fits.{Fits, fits-none, fits-more, fits-row, Agreeing, agreeing-none, agreeing-more}

@@ -16,7 +16,7 @@ use Rattle.symbol.specs.Match.{isEdge}
 use Rattle.table.specs.Table.{Row, Table}
 use Rattle.text.specs.Bytes.{inName}
 use Rattle.text.specs.Blanks.{gap}
-use Rattle.text.specs.Words.{same, isName}
+use Rattle.text.specs.Words.{same}
 use Rattle.text.specs.Reader.{Result, got, refused, Reader, bind, _>>=_, give, refuse, fault, if, check, need, here, skip, pass, byte, said, saidBy, ahead, run, with, word, mark, eitherMark, keyword, name}
 use Rattle.grammar.specs.Header.{ports, portList, Ports, remove, inputList, constant, initial, declarations, declared}
 use Rattle.grammar.specs.Rows.{Written, saying, written, field, columns, state, row, rows}

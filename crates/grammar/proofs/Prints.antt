@@ -1,15 +1,15 @@
 -- Theorem B: reading gives every valid table back from its text. Assumes nothing.
 use mathlib.Core.Path.{_≡_, refl, sym, _∙_}
 use mathlib.Core.List.{List, [], _∷_, _++_, append-nil, append-assoc}
-use mathlib.Core.Bool.{Bool, true, false, not, cond, _&&_, _||_}
-use mathlib.Core.Option.{Option, none, some}
+use mathlib.Core.Bool.{Bool, true, false, not, _&&_, _||_}
+use mathlib.Core.Option.{Option, some}
 use mathlib.Core.Logic.{⊎-elim}
 use Prim.Native.Nat.{ℕ, zero, suc, _+_, _*_, _≤_, _<_}
 use native.Mathlib.Omega.{arith}
 use native.Mathlib.Nat.{add-zero}
 use borrow.Author.Tests.{eqb-true, ne-eqb, le-leb, leb-true, not-true}
 use lib.Dec.{leb, eqb, leb·zero}
-use lib.ListN.{length, drop, take, length-append, getD}
+use lib.ListN.{length, length-append, getD}
 use Rattle.base.specs.Limits.{inputLimit, rowLimit, nameLimit, textLimit}
 use Rattle.base.proofs.Bools.{both, either, clash}
 use Rattle.base.proofs.Search.{every-at}
@@ -25,15 +25,15 @@ use Rattle.symbol.specs.declared.Output.the-variants.{Out0, Out1, Outx, Old}
 use Rattle.symbol.specs.Match.{isEdge}
 use Rattle.symbol.specs.Stored.{levelByte, outputByte}
 use Rattle.table.specs.Table.{Row, Table, rowAt, noRow}
-use Rattle.text.specs.Bytes.{bytes, is, isBlank, starts, inName, isSymbol}
+use Rattle.text.specs.Bytes.{bytes, is, starts, inName}
 use Rattle.text.specs.Words.{member, keywords, allInName, isName, nameFits}
-use Rattle.text.specs.Reader.{Result, got, refused, Reader, bind, _>>=_, give, if, check, need, here, skip, byte, said, ahead, run, word, mark, keyword, name}
+use Rattle.text.specs.Reader.{got, _>>=_, if, check, need, skip, said, ahead, run, word, mark, keyword, name}
 use Rattle.formed.specs.Valid.{ValidRow, Valid}
 use Rattle.formed.specs.Tests.{contradict, valid, headValid, rowsValid, rowsAgree, rowAgrees}
 use Rattle.formed.proofs.Exact.{of-valid}
-use Rattle.grammar.specs.Header.{Ports, portList, Declared, declared, declarations}
-use Rattle.grammar.specs.Rows.{Written, symbol, dash, writtenOf, mayStand, columnOf, stateOf, outputSaid, saying, written, field, columns, state, row, beginsRow, agrees, rows}
-use Rattle.grammar.specs.Reading.{primitive, readers, Reading, table, read}
+use Rattle.grammar.specs.Header.{Ports, portList, declared, declarations}
+use Rattle.grammar.specs.Rows.{Written, symbol, writtenOf, mayStand, columnOf, stateOf, outputSaid, saying, written, field, columns, state, row, beginsRow, rows}
+use Rattle.grammar.specs.Reading.{primitive, readers, table, read}
 use Rattle.grammar.specs.Print.{symbolText, columnsText, endText, rowText, rowsText, letters, commas, portsText, declaredText, kindText, print}
 use Rattle.grammar.proofs.Fits.{Fits, fits-head, fits-tail, row-fits, Agreeing, row-among, agrees-among}
 

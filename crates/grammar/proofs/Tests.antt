@@ -75,6 +75,9 @@ headers =
     ∷ no 6 "primitive p(q,a,b,c,d,e,f,g,h,i,^j" ∷ no 5 "primitive p(q,a,b,c,d,e,f,g,h,i,^a" ∷ no 4 "primitive p(q,a,b,c,d,e,f,g,h,i,^nnnnnnnnnnnnnnnnnnnnnnnnnnnnnnnnn"
     ∷ no 3 "primitive p(q,a,b,c,d,e,f,g,h,i,^reg" ∷ no 2 "primitive p(q,a,b,c,d,e,f,g,h,i,^/*"
     ∷ no 5 "primitive p(q,a,b,c,d,e,f,g,h,i);input a,b,c,d,e,f,g,h,i,^j"
+    ∷ yes "primitive nnnnnnnnnnnnnnnnnnnnnnnnnnnnnnnn(q,Q);output q;input Q;table 0:0;endtable endprimitive^"
+    ∷ yes "primitive p(q,a,b,c,d,e,f,g,h,i);input i,h,g,f,e,d,c,b,a;output q;table 000000000:0;endtable endprimitive^"
+    ∷ yes "primitive p(q,a,b,c,d,e,f,g,h,i);input a;input b;input c;input d;input e;input f;input g;input h;input i;reg q;output q;table(01)00000000:0:0;endtable endprimitive^"
     ∷ []
 
 headers-so : answers "" headers ≡ expected "" headers

@@ -95,7 +95,7 @@ initial q left reg p = do
 abbrev pub declaring : List (List ℕ)
 declaring = bytes "output" ∷ bytes "reg" ∷ bytes "input" ∷ bytes "initial" ∷ bytes "table" ∷ []
 
--- in one `input` list there are at most the ports, and a name that is none of them
+-- in one `input` list there are at most the ports, and a name that is none of them: more room reads the same (proofs/Enough)
 abbrev pub listRoom : ℕ
 listRoom = 2 + inputLimit
 
@@ -128,7 +128,7 @@ declarations (suc room) q left reg = do
         check (noneLeft left) 5 p
         give (record { sequential = reg; start = Vx })))))
 
--- there is one declaration for each port at most, one `reg`, and the word behind them
+-- there is at most one declaration for each port, one `reg`, and the word behind them: more room reads the same
 abbrev pub declarationRoom : ℕ
 declarationRoom = 3 + inputLimit
 
