@@ -1,2 +1,4 @@
 pub mod Masks
 pub mod Entries
+pub mod Filling
+pub mod Steps

@@ -122,7 +122,7 @@ pub fn is_edge(s: Symbol) -> bool
     }
 }
 
-fn is_offered(s: Symbol, c: usize) -> bool
+pub fn is_offered(s: Symbol, c: usize) -> bool
     ensures { λ r. ⌜ r ≡ offered s c ⌝ }
 {
     if c < 3 {
