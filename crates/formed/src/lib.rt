@@ -116,7 +116,8 @@ fn rows_valid(a: &[u8]) -> bool
     true
 }
 
-fn row_agrees(a: &[u8], j: usize) -> bool
+// Row j contradicts none before it.
+pub fn row_agrees(a: &[u8], j: usize) -> bool
     ensures { λ r. ⌜ r ≡ rowAgrees (decode (now (a .entry))) j ⌝ }
 {
     let mut i: usize = 0;
