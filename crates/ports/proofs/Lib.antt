@@ -1,0 +1,4 @@
+pub mod Sum
+pub mod Flags
+pub mod Keeping
+pub mod Steps
