@@ -1,2 +1,4 @@
 pub mod Bytes
 pub mod Words
+pub mod Blanks
+pub mod Reader
