@@ -1,12 +1,12 @@
 -- Vectors of values, read and replaced by the number of an input; the two orders of a pair; vectors counted by numbers.
 use mathlib.Core.Logic.{ite}
 use mathlib.Core.List.{List, [], _∷_, _++_}
-use Prim.Native.Nat.{ℕ, zero, suc, _/_, _%_}
+use Prim.Native.Nat.{ℕ, zero, suc, _+_, _*_, _/_, _%_}
 use native.Mathlib.Decide.{ℕ-discrete}
 use lib.ListN.{getD, set}
 use Rattle.value.specs.declared.Ternary.{Ternary}
 use Rattle.value.specs.declared.Ternary.the-variants.{V0}
-use Rattle.value.specs.Value.{valueOf}
+use Rattle.value.specs.Value.{rankOf, valueOf}
 
 -- value j of a vector, j counted from 1; and the vector with it replaced. Number 0 has the value 0, and cannot be replaced
 abbrev pub at : List Ternary → ℕ → Ternary
@@ -38,3 +38,8 @@ pairOrder n i j = i ∷ j ∷ others n i j
 unfoldable pub vectorOf : ℕ → ℕ → List Ternary
 vectorOf zero c = []
 vectorOf (suc m) c = vectorOf m (c / 3) ++ (valueOf (c % 3) ∷ [])
+
+-- the number of a vector, after the number of the values before it
+unfoldable pub numberFrom : ℕ → List Ternary → ℕ
+numberFrom c [] = c
+numberFrom c (x ∷ v) = numberFrom (c * 3 + rankOf x) v
