@@ -1,0 +1,177 @@
+-- Joined parts are split again, and each is found by its number. Assumes nothing.
+use mathlib.Core.Path.{_≡_, refl, sym, ap, ap₂, _∙_}
+use mathlib.Core.Logic.{_≢_, ⊎-elim}
+use mathlib.Core.Bool.{Bool, true, false, cond}
+use mathlib.Core.List.{List, [], _∷_, _++_, append-assoc, append-nil}
+use Prim.Native.Nat.{ℕ, zero, suc, _+_, _-_, _≤_, _<_}
+use native.Mathlib.Nat.{add-sub-cancel-left}
+use native.Mathlib.Numerals.{add-one}
+use native.Mathlib.Omega.{arith}
+use borrow.Author.Tests.{eq-eqb, ne-eqb}
+use lib.Dec.{eqb}
+use lib.ListN.{length, getD, take, drop, length-append, length-drop, length-take, drop-of-length-le, List·getD-append}
+use lib.Seq.{drop-cons, take-append-seam, drop-append-seam, getD-append-add, getD-append-seam}
+use Rattle.base.specs.Search.{firstFrom}
+use Rattle.files.specs.Parts.{Without, join, splitFrom, split, afterMark, nextMark, between, partAt}
+
+-- parts that hold no c
+pub data Clean (c : ℕ) : List (List ℕ) → Type 0 where
+  none : Clean c []
+  more : {b : List ℕ} {bs : List (List ℕ)} → Without c b → Clean c bs → Clean c (b ∷ bs)
+
+module _ (c : ℕ) where
+  -- ---- splitting, one byte at a time
+
+  pub split-mark : (so-far l : List ℕ) (x : ℕ) → x ≡ c → splitFrom c so-far (x ∷ l) ≡ (so-far ∷ split c l .0, split c l .1)
+  split-mark so-far l x h = rw (eq-eqb x c h)
+
+  pub split-other : (so-far l : List ℕ) (x : ℕ) → x ≢ c → splitFrom c so-far (x ∷ l) ≡ splitFrom c (so-far ++ (x ∷ [])) l
+  split-other so-far l x h = rw (ne-eqb x c h)
+
+  split-body : (so-far b l : List ℕ) → Without c b → splitFrom c so-far (b ++ (c ∷ l)) ≡ ((so-far ++ b) ∷ split c l .0, split c l .1)
+  split-body so-far [] l h = split-mark so-far l c refl ∙ rw (append-nil so-far)
+  split-body so-far (x ∷ b) l h =
+      split-other so-far (b ++ (c ∷ l)) x (h 0) ∙ split-body (so-far ++ (x ∷ [])) b l (λ k. h (suc k)) ∙ rw (append-assoc so-far (x ∷ []) b)
+
+  split-rest : (so-far t : List ℕ) → Without c t → splitFrom c so-far t ≡ ([], so-far ++ t)
+  split-rest so-far [] h = rw (append-nil so-far)
+  split-rest so-far (x ∷ t) h = split-other so-far t x (h 0) ∙ split-rest (so-far ++ (x ∷ [])) t (λ k. h (suc k)) ∙ rw (append-assoc so-far (x ∷ []) t)
+
+  -- the split is the only one
+  pub split-join : {bs : List (List ℕ)} (t : List ℕ) → Clean c bs → Without c t → split c (join c bs ++ t) ≡ (bs, t)
+  split-join t none h = split-rest [] t h
+  split-join t (more {b} {bs} w ws) h =
+      rw (append-assoc b (c ∷ join c bs) t)
+      (split-body [] b (join c bs ++ t) w ∙ ap (λ (r : List (List ℕ) × List ℕ). (b ∷ r .0, r .1)) (split-join t ws h))
+
+  pub join-snoc : (bs : List (List ℕ)) (b : List ℕ) → join c (bs ++ (b ∷ [])) ≡ join c bs ++ (b ++ (c ∷ []))
+  join-snoc [] b = refl
+  join-snoc (a ∷ bs) b = rw (join-snoc bs b, append-assoc a (c ∷ join c bs) (b ++ (c ∷ [])))
+
+  -- ---- part k by its place
+
+  pub part-in : (bs : List (List ℕ)) (t : List ℕ) (k : ℕ) → k < length bs →
+      join c bs ++ t ≡ join c (take k bs) ++ (getD bs k [] ++ (c ∷ (join c (drop (suc k) bs) ++ t)))
+  part-in [] t k h = absurd (omega arith)
+  part-in (b ∷ bs) t zero h = append-assoc b (c ∷ join c bs) t
+  part-in (b ∷ bs) t (suc k) h =
+      append-assoc b (c ∷ join c bs) t
+      ∙ ap (λ (r : List ℕ). b ++ (c ∷ r)) (part-in bs t k (omega arith))
+      ∙ sym (append-assoc b (c ∷ join c (take k bs)) (getD bs k [] ++ (c ∷ (join c (drop (suc k) bs) ++ t))))
+
+  after-body : (k : ℕ) (b l : List ℕ) → Without c b → afterMark c (suc k) (b ++ (c ∷ l)) ≡ length b + suc (afterMark c k l)
+  unfolding afterMark
+  after-body k [] l h = rw (eq-eqb c c refl) (omega arith)
+  after-body k (x ∷ b) l h = rw (ne-eqb x c (h 0)) (omega (arith, after-body k b l (λ m. h (suc m))))
+
+  pub after-join : {bs : List (List ℕ)} (t : List ℕ) (k : ℕ) → Clean c bs → k ≤ length bs → afterMark c k (join c bs ++ t) ≡ length (join c (take k bs))
+  unfolding afterMark
+  after-join t zero w h = refl
+  after-join t (suc k) none h = absurd (omega arith)
+  after-join t (suc k) (more {b} {bs} w ws) h =
+      rw (append-assoc b (c ∷ join c bs) t)
+      (after-body k b (join c bs ++ t) w ∙ omega (arith, after-join t k ws (omega arith), length-append b (c ∷ join c (take k bs))))
+
+  -- ---- the next c
+
+  pub next-more : (l : List ℕ) (i : ℕ) → i < length l → getD l i 0 ≢ c → nextMark c l i ≡ nextMark c l (i + 1)
+  unfolding nextMark firstFrom
+  next-more l i h e =
+      let z : length l - i ≡ suc (length l - suc i) = omega arith in
+      rw (z, ne-eqb (getD l i 0) c e, add-one i)
+
+  pub next-here : (l : List ℕ) (i : ℕ) → i < length l → getD l i 0 ≡ c → nextMark c l i ≡ i
+  unfolding nextMark firstFrom
+  next-here l i h e =
+      let z : length l - i ≡ suc (length l - suc i) = omega arith in
+      rw (z, eq-eqb (getD l i 0) c e)
+
+  pub next-none : (l : List ℕ) (i : ℕ) → length l ≤ i → nextMark c l i ≡ i
+  unfolding nextMark firstFrom
+  next-none l i h =
+      let z : length l - i ≡ 0 = omega arith in
+      rw z
+
+  pub next-body : (a b l : List ℕ) → Without c b → nextMark c (a ++ (b ++ (c ∷ l))) (length a) ≡ length a + length b
+  next-body a [] l h =
+      next-here (a ++ (c ∷ l)) (length a) (omega (arith, length-append a (c ∷ l))) (getD-append-seam a c l 0) ∙ omega arith
+  next-body a (x ∷ b) l h =
+      let s : a ++ (x ∷ (b ++ (c ∷ l))) ≡ (a ++ (x ∷ [])) ++ (b ++ (c ∷ l)) = sym (append-assoc a (x ∷ []) (b ++ (c ∷ l))) in
+      let n : length (a ++ (x ∷ [])) ≡ length a + 1 = length-append a (x ∷ []) in
+      next-more (a ++ (x ∷ (b ++ (c ∷ l)))) (length a) (omega (arith, length-append a (x ∷ (b ++ (c ∷ l))))) (λ e. h 0 (sym (getD-append-seam a x (b ++ (c ∷ l)) 0) ∙ e))
+      ∙ ap₂ (nextMark c) s (sym n)
+      ∙ next-body (a ++ (x ∷ [])) b l (λ k. h (suc k))
+      ∙ omega (arith, n)
+
+  pub between-mid : (a b l : List ℕ) (e : ℕ) → e ≡ length a + length b → between (length a) e (a ++ (b ++ l)) ≡ b
+  between-mid a b l e h =
+      let z : e - length a ≡ length b = omega arith in
+      rw (z, drop-append-seam a (b ++ l)) (take-append-seam b l)
+
+  clean-at : {bs : List (List ℕ)} (k : ℕ) → Clean c bs → k < length bs → Without c (getD bs k [])
+  clean-at k none h = absurd (omega arith)
+  clean-at zero (more w ws) h = w
+  clean-at (suc k) (more w ws) h = clean-at k ws (omega arith)
+
+  pub next-join : {bs : List (List ℕ)} (t : List ℕ) (k : ℕ) → Clean c bs → k < length bs →
+      nextMark c (join c bs ++ t) (length (join c (take k bs))) ≡ length (join c (take k bs)) + length (getD bs k [])
+  next-join {bs} t k w h =
+      rw (part-in bs t k h) (next-body (join c (take k bs)) (getD bs k []) (join c (drop (suc k) bs) ++ t) (clean-at k w h))
+
+  pub part-join : {bs : List (List ℕ)} (t : List ℕ) (k : ℕ) → Clean c bs → k < length bs → partAt c k (join c bs ++ t) ≡ getD bs k []
+  unfolding partAt
+  part-join {bs} t k w h =
+      rw (after-join t k w (omega arith), next-join t k w h, part-in bs t k h)
+      (between-mid (join c (take k bs)) (getD bs k []) (c ∷ (join c (drop (suc k) bs) ++ t)) (length (join c (take k bs)) + length (getD bs k [])) refl)
+
+  -- ---- bounds
+
+  after-step : (k : ℕ) (l : List ℕ) (b : Bool) (p q : ℕ) → p ≤ length l → q ≤ length l → cond b p q ≤ length l
+  after-step k l true p q h g = h
+  after-step k l false p q h g = g
+
+  pub after-le : (k : ℕ) (l : List ℕ) → afterMark c k l ≤ length l
+  unfolding afterMark
+  after-le zero l = omega arith
+  after-le (suc k) [] = omega arith
+  after-le (suc k) (x ∷ l) = omega (arith, after-step k l (eqb x c) (afterMark c k l) (afterMark c (suc k) l) (after-le k l) (after-le (suc k) l))
+
+from-bounds : (f : ℕ → Bool) (i m : ℕ) → (i ≤ firstFrom f i m) × (firstFrom f i m ≤ i + m)
+unfolding firstFrom
+from-bounds f i zero = (omega arith, omega arith)
+from-bounds f i (suc m) = go (f i) (from-bounds f (suc i) m)
+  where
+    go : (b : Bool) → (suc i ≤ firstFrom f (suc i) m) × (firstFrom f (suc i) m ≤ suc i + m) → (i ≤ cond b i (firstFrom f (suc i) m)) × (cond b i (firstFrom f (suc i) m) ≤ i + suc m)
+    go true h = (omega arith, omega arith)
+    go false h = (omega arith, omega arith)
+
+pub next-ge : (c : ℕ) (l : List ℕ) (i : ℕ) → i ≤ nextMark c l i
+unfolding nextMark
+next-ge c l i = from-bounds (λ k. eqb (getD l k 0) c) i (length l - i) .0
+
+pub next-le : (c : ℕ) (l : List ℕ) (i : ℕ) → i ≤ length l → nextMark c l i ≤ length l
+unfolding nextMark
+next-le c l i h = omega (arith, from-bounds (λ k. eqb (getD l k 0) c) i (length l - i) .1)
+
+-- ---- the walk to the place after the k-th c: the answer from place i on, with `left` still to pass
+
+pub walk-stop : (c : ℕ) (s : List ℕ) (i : ℕ) → i + afterMark c 0 (drop i s) ≡ i
+unfolding afterMark
+walk-stop c s i = omega arith
+
+pub walk-end : (c left : ℕ) (s : List ℕ) (i : ℕ) → length s ≤ i → i + afterMark c left (drop i s) ≡ i
+unfolding afterMark
+walk-end c zero s i h = omega arith
+walk-end c (suc left) s i h = rw (drop-of-length-le s h) (omega arith)
+
+pub walk-mark : (c left : ℕ) (s : List ℕ) (i : ℕ) → i < length s → left ≢ 0 → getD s i 0 ≡ c → i + afterMark c left (drop i s) ≡ (i + 1) + afterMark c (left - 1) (drop (i + 1) s)
+unfolding afterMark
+walk-mark c zero s i h p e = absurd (p refl)
+walk-mark c (suc left) s i h p e =
+    let z : suc left - 1 ≡ left = omega arith in
+    rw (drop-cons s i 0 h, eq-eqb (getD s i 0) c e, z, add-one i) (omega arith)
+
+pub walk-other : (c left : ℕ) (s : List ℕ) (i : ℕ) → i < length s → left ≢ 0 → getD s i 0 ≢ c → i + afterMark c left (drop i s) ≡ (i + 1) + afterMark c left (drop (i + 1) s)
+unfolding afterMark
+walk-other c zero s i h p e = absurd (p refl)
+walk-other c (suc left) s i h p e = rw (drop-cons s i 0 h, ne-eqb (getD s i 0) c e, add-one i) (omega arith)
