@@ -124,6 +124,29 @@ module _ (c : ℕ) where
       rw (after-join t k w (omega arith), next-join t k w h, part-in bs t k h)
       (between-mid (join c (take k bs)) (getD bs k []) (c ∷ (join c (drop (suc k) bs) ++ t)) (length (join c (take k bs)) + length (getD bs k [])) refl)
 
+  -- ---- byte i of the parts from m on
+
+  module _ (bs : List (List ℕ)) (t : List ℕ) (m i : ℕ) where
+    front : m < length bs → join c (drop m bs) ++ t ≡ getD bs m [] ++ (c ∷ (join c (drop (suc m) bs) ++ t))
+    front h = rw (drop-cons bs m [] h) (append-assoc (getD bs m []) (c ∷ join c (drop (suc m) bs)) t)
+
+    pub byte-in : m < length bs → i < length (getD bs m []) → getD (join c (drop m bs) ++ t) i 0 ≡ getD (getD bs m []) i 0
+    byte-in h l = rw (front h) (List·getD-append (getD bs m []) (c ∷ (join c (drop (suc m) bs) ++ t)) 0 i l)
+
+    pub byte-mark : m < length bs → i ≡ length (getD bs m []) → getD (join c (drop m bs) ++ t) i 0 ≡ c
+    byte-mark h e = rw (front h, e) (getD-append-seam (getD bs m []) c (join c (drop (suc m) bs) ++ t) 0)
+
+    pub byte-more : (l : ℕ) → m < length bs → l ≡ length (getD bs m []) → l < i →
+        getD (join c (drop m bs) ++ t) i 0 ≡ getD (join c (drop (m + 1) bs) ++ t) (i - l - 1) 0
+    byte-more l h e g =
+        let z : i ≡ length (getD bs m []) + suc (i - l - 1) = omega arith in
+        rw (front h, add-one m)
+        (ap (λ (j : ℕ). getD (getD bs m [] ++ (c ∷ (join c (drop (suc m) bs) ++ t))) j 0) z
+        ∙ getD-append-add (getD bs m []) (c ∷ (join c (drop (suc m) bs) ++ t)) (suc (i - l - 1)) 0)
+
+    pub byte-rest : length bs ≤ m → getD (join c (drop m bs) ++ t) i 0 ≡ getD t i 0
+    byte-rest h = rw (drop-of-length-le bs h)
+
   -- ---- bounds
 
   after-step : (k : ℕ) (l : List ℕ) (b : Bool) (p q : ℕ) → p ≤ length l → q ≤ length l → cond b p q ≤ length l
