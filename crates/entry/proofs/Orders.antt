@@ -98,18 +98,42 @@ module _ (n i j : ℕ) (from : 1 ≤ i) (apart : i < j) (to : j ≤ n) where
   others-first : without i (without j (rise 1 n)) ≡ low ++ (mid ++ high)
   unfolding low mid high
   others-first =
-      rw (whole, without-append j low (i ∷ (mid ++ (j ∷ high))), without-other j i (mid ++ (j ∷ high)) (λ e. omega arith), without-append j mid (j ∷ high), without-here j high,
-        without-rise j 1 (i - 1) (λ k p q e. omega arith), without-rise j (suc i) (j - i - 1) (λ k p q e. omega arith), without-rise j (suc j) (n - j) (λ k p q e. omega arith),
-        without-append i low (i ∷ (mid ++ high)), without-here i (mid ++ high), without-append i mid high,
-        without-rise i 1 (i - 1) (λ k p q e. omega arith), without-rise i (suc i) (j - i - 1) (λ k p q e. omega arith), without-rise i (suc j) (n - j) (λ k p q e. omega arith))
+      rw (
+        whole,
+        without-append j low (i ∷ (mid ++ (j ∷ high))),
+        without-other j i (mid ++ (j ∷ high)) (λ e. omega arith),
+        without-append j mid (j ∷ high),
+        without-here j high,
+        without-rise j 1 (i - 1) (λ k p q e. omega arith),
+        without-rise j (suc i) (j - i - 1) (λ k p q e. omega arith),
+        without-rise j (suc j) (n - j) (λ k p q e. omega arith),
+        without-append i low (i ∷ (mid ++ high)),
+        without-here i (mid ++ high),
+        without-append i mid high,
+        without-rise i 1 (i - 1) (λ k p q e. omega arith),
+        without-rise i (suc i) (j - i - 1) (λ k p q e. omega arith),
+        without-rise i (suc j) (n - j) (λ k p q e. omega arith),
+      )
 
   others-second : without j (without i (rise 1 n)) ≡ low ++ (mid ++ high)
   unfolding low mid high
   others-second =
-      rw (whole, without-append i low (i ∷ (mid ++ (j ∷ high))), without-here i (mid ++ (j ∷ high)), without-append i mid (j ∷ high), without-other i j high (λ e. omega arith),
-        without-rise i 1 (i - 1) (λ k p q e. omega arith), without-rise i (suc i) (j - i - 1) (λ k p q e. omega arith), without-rise i (suc j) (n - j) (λ k p q e. omega arith),
-        without-append j low (mid ++ (j ∷ high)), without-append j mid (j ∷ high), without-here j high,
-        without-rise j 1 (i - 1) (λ k p q e. omega arith), without-rise j (suc i) (j - i - 1) (λ k p q e. omega arith), without-rise j (suc j) (n - j) (λ k p q e. omega arith))
+      rw (
+        whole,
+        without-append i low (i ∷ (mid ++ (j ∷ high))),
+        without-here i (mid ++ (j ∷ high)),
+        without-append i mid (j ∷ high),
+        without-other i j high (λ e. omega arith),
+        without-rise i 1 (i - 1) (λ k p q e. omega arith),
+        without-rise i (suc i) (j - i - 1) (λ k p q e. omega arith),
+        without-rise i (suc j) (n - j) (λ k p q e. omega arith),
+        without-append j low (mid ++ (j ∷ high)),
+        without-append j mid (j ∷ high),
+        without-here j high,
+        without-rise j 1 (i - 1) (λ k p q e. omega arith),
+        without-rise j (suc i) (j - i - 1) (λ k p q e. omega arith),
+        without-rise j (suc j) (n - j) (λ k p q e. omega arith),
+      )
 
   size : length (low ++ (mid ++ high)) ≡ n - 2
   unfolding low mid high
@@ -150,9 +174,9 @@ module _ (n i j : ℕ) (from : 1 ≤ i) (apart : i < j) (to : j ≤ n) where
       (⊎-elim
       (λ (l : suc m < i). rw (lt-ltb (suc m) i l, lt-ltb (suc m) j (omega arith)) (sym (at-low m (omega arith) ∙ omega arith)))
       (λ (g : i ≤ suc m). ⊎-elim
-          (λ (l : suc (suc m) < j). rw (le-ltb (suc m) i g, lt-ltb (suc (suc m)) j l) (sym (at-mid m (omega arith) (omega arith) ∙ omega arith)))
-          (λ (r : j ≤ suc (suc m)). rw (le-ltb (suc m) i g, le-ltb (suc (suc m)) j r) (sym (at-high m (omega arith) (omega arith) ∙ omega arith)))
-          (lt-or-ge (suc (suc m)) j))
+      (λ (l : suc (suc m) < j). rw (le-ltb (suc m) i g, lt-ltb (suc (suc m)) j l) (sym (at-mid m (omega arith) (omega arith) ∙ omega arith)))
+      (λ (r : j ≤ suc (suc m)). rw (le-ltb (suc m) i g, le-ltb (suc (suc m)) j r) (sym (at-high m (omega arith) (omega arith) ∙ omega arith)))
+      (lt-or-ge (suc (suc m)) j))
       (lt-or-ge (suc m) i))
 
   listed-order : (a b : ℕ) (l : List ℕ) → l ≡ low ++ (mid ++ high) → listed (orderAt i j a b) n ≡ a ∷ b ∷ l
