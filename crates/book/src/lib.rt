@@ -130,7 +130,7 @@ pub fn append(
 
 // The entry whose line stands from `a` to `e`.
 fn entry_in(file: &[u8], a: usize, e: usize) -> Entry {
-    let t = line::told(&file[a..e]);
+    let t = line::read_line(&file[a..e]);
     let f = t.finding;
     Entry {
         name_at: a,

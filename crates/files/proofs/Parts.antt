@@ -9,8 +9,8 @@ use native.Mathlib.Numerals.{add-one}
 use native.Mathlib.Omega.{arith}
 use borrow.Author.Tests.{eq-eqb, ne-eqb}
 use lib.Dec.{eqb}
-use lib.ListN.{length, getD, take, drop, length-append, length-drop, length-take, drop-of-length-le, List·getD-append}
-use lib.Seq.{drop-cons, take-append-seam, drop-append-seam, getD-append-add, getD-append-seam}
+use lib.ListN.{length, getD, take, drop, length-append, length-drop, length-take, drop-of-length-le, List·getD-append, List·getD-eq-default}
+use lib.Seq.{length-take-le, getD-take, getD-drop, drop-cons, take-append-seam, drop-append-seam, getD-append-add, getD-append-seam}
 use Rattle.base.specs.Search.{firstFrom}
 use Rattle.files.specs.Parts.{Without, join, splitFrom, split, afterMark, nextMark, between, partAt}
 
@@ -175,6 +175,32 @@ next-ge c l i = from-bounds (λ k. eqb (getD l k 0) c) i (length l - i) .0
 pub next-le : (c : ℕ) (l : List ℕ) (i : ℕ) → i ≤ length l → nextMark c l i ≤ length l
 unfolding nextMark
 next-le c l i h = omega (arith, from-bounds (λ k. eqb (getD l k 0) c) i (length l - i) .1)
+
+-- ---- a part by its ends
+
+module _ (c m : ℕ) (l : List ℕ) (a e : ℕ) (p : a ≡ afterMark c m l) (q : e ≡ nextMark c l a) where
+  pub part-order : (a ≤ e) × (e ≤ length l)
+  part-order = (omega (arith, next-ge c l a), omega (arith, next-le c l a (omega (arith, after-le c m l))))
+
+  part-is : partAt c m l ≡ between a e l
+  unfolding partAt
+  part-is = rw (← p, ← q)
+
+  pub part-length : length (partAt c m l) ≡ e - a
+  part-length = ap length part-is ∙ length-take-le (e - a) (drop a l) (omega (arith, length-drop a l, part-order .0, part-order .1))
+
+  pub part-byte : (k : ℕ) → k < e - a → getD (partAt c m l) k 0 ≡ getD l (a + k) 0
+  part-byte k h = ap (λ (r : List ℕ). getD r k 0) part-is ∙ getD-take (e - a) (drop a l) k 0 h ∙ getD-drop a l k 0
+
+  pub part-past : (k : ℕ) → e - a ≤ k → getD (partAt c m l) k 0 ≡ 0
+  part-past k h = List·getD-eq-default (partAt c m l) 0 (omega (arith, part-length))
+
+-- a part is no longer than the whole
+pub part-short : (c m : ℕ) (l : List ℕ) → length (partAt c m l) ≤ length l
+part-short c m l =
+    let a : ℕ = afterMark c m l in
+    let e : ℕ = nextMark c l a in
+    omega (arith, part-length c m l a e refl refl, part-order c m l a e refl refl .1)
 
 -- ---- the walk to the place after the k-th c: the answer from place i on, with `left` still to pass
 

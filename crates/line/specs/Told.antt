@@ -59,8 +59,11 @@ unfoldable pub toldBy : List ℕ → Told
 toldBy l = record { «name_length» = length (fieldIn 0 l); inputs = numberIn (fieldIn 1 l); rows = numberIn (fieldIn 2 l); finding = findingIn l }
 
 -- what is told, with the name's bytes
+abbrev pub handOf : Told → List ℕ → Handed
+handOf t l = record { name = take (t .«name_length») l; inputs = t .inputs; rows = t .rows; finding = t .finding }
+
 unfoldable pub handedBy : List ℕ → Handed
-handedBy l = record { name = take (toldBy l .«name_length») l; inputs = toldBy l .inputs; rows = toldBy l .rows; finding = toldBy l .finding }
+handedBy l = handOf (toldBy l) l
 
 -- equal bytes
 abbrev pub sameBytes : List ℕ → List ℕ → Bool

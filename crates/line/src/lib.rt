@@ -116,7 +116,7 @@ fn witness(line: &[u8]) -> Witness
     }
 }
 
-pub fn told(line: &[u8]) -> Told
+pub fn read_line(line: &[u8]) -> Told
     ensures { λ r. ⌜ r ≡ toldBy (now (line .entry)) ⌝ }
 {
     let size = field_length(line, 0);
@@ -144,7 +144,7 @@ pub fn told(line: &[u8]) -> Told
 pub fn is_entry(line: &[u8], s: usize) -> bool
     ensures { λ r. ⌜ r ≡ isEntry s (now (line .entry)) ⌝ }
 {
-    let t = told(line);
+    let t = read_line(line);
     let size = t.name_length;
     let f = t.finding;
     let name = &line[..size];

@@ -69,7 +69,7 @@ pub vector-number : (v : List Ternary) → vectorOf (length v) (numberFrom 0 v) 
 unfolding vectorOf
 vector-number v = rw (add-zero (length v)) at (vector-number-from 0 0 v)
 
-number-snoc : (c : ℕ) (v : List Ternary) (x : Ternary) → numberFrom c (v ++ (x ∷ [])) ≡ numberFrom c v * 3 + rankOf x
+pub number-snoc : (c : ℕ) (v : List Ternary) (x : Ternary) → numberFrom c (v ++ (x ∷ [])) ≡ numberFrom c v * 3 + rankOf x
 unfolding numberFrom
 number-snoc c [] x = refl
 number-snoc c (y ∷ v) x = number-snoc (c * 3 + rankOf y) v x
