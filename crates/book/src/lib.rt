@@ -1,6 +1,20 @@
 // The book: opening, append, fetch, and a reader that walks back.
 use verdict::Finding;
 ghost use mathlib.Core.Path.{_≡_};
+ghost use mathlib.Core.Bool.{cond};
+ghost use mathlib.Core.List.{[], _∷_, _++_};
+ghost use Prim.Native.Nat.{_+_, _≤_};
+ghost use lib.ListN.{length, getD};
+ghost use lib.Dec.{ltb};
+ghost use Rattle.base.specs.Limits.{bookLimit};
+ghost use Rattle.base.specs.Listed.{listed};
+ghost use Rattle.files.specs.Parts.{between};
+ghost use Rattle.files.specs.Files.{LF};
+ghost use Rattle.entry.specs.Entry.{entry};
+ghost use Rattle.entry.specs.Handed.{Handed};
+ghost use Rattle.entry.specs.Draft.{draft};
+ghost use Rattle.line.specs.Told.{toldBy};
+ghost use Rattle.book.specs.Book.{openedFile, opened, outcome, withBytes, appendedAt, appended, entryAt, entryOf, fetched};
 
 pub struct Good {
     pub entries: usize,
@@ -32,16 +46,16 @@ pub enum Fetched {
     Refused(u8, usize),
 }
 
-fn limit(length: usize) -> usize {
-    if length < base::BOOK {
-        length
-    } else {
-        base::BOOK
-    }
+fn limit(size: usize) -> usize
+    ensures { λ r. ⌜ r ≡ cond (ltb size bookLimit) size bookLimit ⌝ }
+{
+    if size < base::BOOK { size } else { base::BOOK }
 }
 
 // A file of lines: each must be an entry; what follows the last LF is torn.
-fn open_lines(file: &[u8]) -> Opened {
+fn open_lines(file: &[u8]) -> Opened
+    ensures { λ r. ⌜ r ≡ openedFile (now (file .entry)) ⌝ }
+{
     let mut start: usize = 0;
     let mut count: usize = 0;
     let mut end = files::next(file, b'\n', 0);
@@ -60,7 +74,9 @@ fn open_lines(file: &[u8]) -> Opened {
     })
 }
 
-pub fn open_book(book: &[u8], stated: usize) -> Opened {
+pub fn open_book(book: &[u8], stated: usize) -> Opened
+    ensures { λ r. ⌜ r ≡ opened (now (book .entry)) stated ⌝ }
+{
     let most = limit(book.len());
     if most < stated {
         return Opened::Refused(13, most);
@@ -68,7 +84,7 @@ pub fn open_book(book: &[u8], stated: usize) -> Opened {
     open_lines(&book[..stated])
 }
 
-// Writes the line at `at`, where there is room for its `size` bytes.
+// Writes the first `size` bytes of the line at `at`.
 fn write_line(
     book: &mut [u8],
     at: usize,
@@ -77,7 +93,10 @@ fn write_line(
     inputs: usize,
     rows: usize,
     finding: Finding,
-) {
+)
+    requires { do ⌜ at + size ≤ (← ⟦book.len()⟧) ⌝ }
+    ensures { λ _. ⌜ now (book .exit) ≡ withBytes (now (book .entry)) at size (listed (λ k. getD (entry at (draft record { name = now (name .entry); inputs = inputs; rows = rows; finding = finding }) ++ (LF ∷ [])) k 0) size) ⌝ }
+{
     let mut k: usize = 0;
     while k < size {
         book[at + k] = entry::line_byte(name, inputs, rows, finding, at, k);
@@ -94,7 +113,9 @@ fn append_at(
     inputs: usize,
     rows: usize,
     finding: Finding,
-) -> Appended {
+) -> Appended
+    ensures { λ r. ⌜ outcome r (now (book .exit)) ≡ appendedAt (now (book .entry)) stated good record { name = now (name .entry); inputs = inputs; rows = rows; finding = finding } ⌝ }
+{
     let size = entry::line_length(name, inputs, rows, finding);
     if size == 0 {
         return Appended::Refused(14, 0);
@@ -120,7 +141,9 @@ pub fn append(
     inputs: usize,
     rows: usize,
     finding: Finding,
-) -> Appended {
+) -> Appended
+    ensures { λ r. ⌜ outcome r (now (book .exit)) ≡ appended (now (book .entry)) stated record { name = now (name .entry); inputs = inputs; rows = rows; finding = finding } ⌝ }
+{
     let o = open_book(book, stated);
     match o {
         Opened::Refused(number, place) => Appended::Refused(number, place),
@@ -129,7 +152,11 @@ pub fn append(
 }
 
 // The entry whose line stands from `a` to `e`.
-fn entry_in(file: &[u8], a: usize, e: usize) -> Entry {
+fn entry_in(file: &[u8], a: usize, e: usize) -> Entry
+    requires { ⌜ a ≤ e ⌝ }
+    requires { do ⌜ e ≤ (← ⟦file.len()⟧) ⌝ }
+    ensures { λ r. ⌜ r ≡ entryAt a (toldBy (between a e (now (file .entry)))) ⌝ }
+{
     let t = line::read_line(&file[a..e]);
     let f = t.finding;
     Entry {
@@ -141,7 +168,17 @@ fn entry_in(file: &[u8], a: usize, e: usize) -> Entry {
     }
 }
 
-pub fn fetch(book: &[u8], stated: usize, k: usize) -> Fetched {
+// Entry k, counted from 0.
+fn entry_of(book: &[u8], k: usize) -> Entry
+    ensures { λ r. ⌜ r ≡ entryOf (now (book .entry)) k ⌝ }
+{
+    let a = files::after(book, b'\n', k);
+    entry_in(book, a, files::next(book, b'\n', a))
+}
+
+pub fn fetch(book: &[u8], stated: usize, k: usize) -> Fetched
+    ensures { λ r. ⌜ r ≡ fetched (now (book .entry)) stated k ⌝ }
+{
     let o = open_book(book, stated);
     match o {
         Opened::Refused(number, place) => Fetched::Refused(number, place),
@@ -152,9 +189,7 @@ pub fn fetch(book: &[u8], stated: usize, k: usize) -> Fetched {
             if g.entries < k {
                 return Fetched::Refused(16, 0);
             }
-            let a = files::after(book, b'\n', k - 1);
-            let e = files::next(book, b'\n', a);
-            let found = entry_in(book, a, e);
+            let found = entry_of(book, k - 1);
             Fetched::Entry(found)
         }
     }

@@ -4,3 +4,4 @@ pub mod Fit
 pub mod Orders
 pub mod Clean
 pub mod Fitting
+pub mod Sizes

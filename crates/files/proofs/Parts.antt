@@ -4,14 +4,15 @@ use mathlib.Core.Logic.{_≢_, ⊎-elim}
 use mathlib.Core.Bool.{Bool, true, false, cond}
 use mathlib.Core.List.{List, [], _∷_, _++_, append-assoc, append-nil}
 use Prim.Native.Nat.{ℕ, zero, suc, _+_, _-_, _≤_, _<_}
-use native.Mathlib.Nat.{add-sub-cancel-left}
+use native.Mathlib.Nat.{eq-or-lt-of-le}
 use native.Mathlib.Numerals.{add-one}
 use native.Mathlib.Omega.{arith}
-use borrow.Author.Tests.{eq-eqb, ne-eqb}
+use borrow.Author.Tests.{eq-eqb, ne-eqb, eqb-true, eqb-false}
 use lib.Dec.{eqb}
-use lib.ListN.{length, getD, take, drop, length-append, length-drop, length-take, drop-of-length-le, List·getD-append, List·getD-eq-default}
-use lib.Seq.{length-take-le, getD-take, getD-drop, drop-cons, take-append-seam, drop-append-seam, getD-append-add, getD-append-seam}
+use lib.ListN.{length, getD, take, drop, length-append, length-drop, length-take, take-append-drop, drop-of-length-le, List·getD-append, List·getD-eq-default}
+use lib.Seq.{take-all, drop-drop, length-take-le, getD-take, getD-drop, drop-cons, take-append-seam, drop-append-seam, getD-append-add, getD-append-seam}
 use Rattle.base.specs.Search.{firstFrom}
+use Rattle.base.proofs.Bools.{lt-or-ge}
 use Rattle.files.specs.Parts.{Without, join, splitFrom, split, afterMark, nextMark, between, partAt}
 
 -- parts that hold no c
@@ -201,6 +202,51 @@ part-short c m l =
     let a : ℕ = afterMark c m l in
     let e : ℕ = nextMark c l a in
     omega (arith, part-length c m l a e refl refl, part-order c m l a e refl refl .1)
+
+-- ---- up to the next c there is none
+
+below-turn : (f : ℕ → Bool) (i k r : ℕ) (b : Bool) → f i ≡ b → i ≤ k → k < cond b i r → (i < k → k < r → f k ≡ false) → f k ≡ false
+below-turn f i k r true e g h go = absurd (omega arith)
+below-turn f i k r false e g h go = ⊎-elim (λ (q : i ≡ k). rw (← q) e) (λ (q : i < k). go q h) (eq-or-lt-of-le g)
+
+from-below : (f : ℕ → Bool) (i m k : ℕ) → i ≤ k → k < firstFrom f i m → f k ≡ false
+unfolding firstFrom
+from-below f i zero k g h = absurd (omega arith)
+from-below f i (suc m) k g h = below-turn f i k (firstFrom f (suc i) m) (f i) refl g h (from-below f (suc i) m k)
+
+found-turn : (f : ℕ → Bool) (i m r : ℕ) (b : Bool) → f i ≡ b → cond b i r < i + suc m → (r < suc i + m → f r ≡ true) → f (cond b i r) ≡ true
+found-turn f i m r true e h go = e
+found-turn f i m r false e h go = go (omega arith)
+
+from-found : (f : ℕ → Bool) (i m : ℕ) → firstFrom f i m < i + m → f (firstFrom f i m) ≡ true
+unfolding firstFrom
+from-found f i zero h = absurd (omega arith)
+from-found f i (suc m) h = found-turn f i m (firstFrom f (suc i) m) (f i) refl h (from-found f (suc i) m)
+
+module _ (c : ℕ) (some : c ≢ 0) (l : List ℕ) (i e : ℕ) (inside : i ≤ length l) (q : e ≡ nextMark c l i) where
+  open-part : Without c (between i e l)
+  unfolding nextMark
+  open-part k h = ⊎-elim within beyond (lt-or-ge k (e - i))
+    where
+      within : k < e - i → ⊥
+      within g = eqb-false (getD l (i + k) 0) c (from-below (λ m. eqb (getD l m 0) c) i (length l - i) (i + k) (omega arith) (omega (arith, q))) (sym (getD-take (e - i) (drop i l) k 0 g ∙ getD-drop i l k 0) ∙ h)
+
+      beyond : e - i ≤ k → ⊥
+      beyond g = some (sym h ∙ List·getD-eq-default (between i e l) 0 {n = k} (omega (arith, length-take (e - i) (drop i l))))
+
+  pub split-next : e < length l → split c (drop i l) ≡ (between i e l ∷ split c (drop (e + 1) l) .0, split c (drop (e + 1) l) .1)
+  unfolding nextMark
+  split-next h =
+      let g : i ≤ e = omega (arith, next-ge c l i, q) in
+      let z : i + (e - i) ≡ e = omega arith in
+      let at-e : getD l e 0 ≡ c = rw q (eqb-true (getD l (nextMark c l i) 0) c (from-found (λ m. eqb (getD l m 0) c) i (length l - i) (omega (arith, q)))) in
+      let rest : drop (e - i) (drop i l) ≡ c ∷ drop (e + 1) l = drop-drop (e - i) i l ∙ rw (z, drop-cons l e 0 h, at-e, add-one e) in
+      ap (split c) (sym (take-append-drop (e - i) (drop i l)) ∙ ap (λ (r : List ℕ). between i e l ++ r) rest) ∙ split-body c [] (between i e l) (drop (e + 1) l) open-part
+
+  pub split-last : length l ≤ e → split c (drop i l) ≡ ([], drop i l)
+  split-last h =
+      let w : between i e l ≡ drop i l = take-all (e - i) (drop i l) (omega (arith, length-drop i l)) in
+      split-rest c [] (drop i l) (rw w at open-part)
 
 -- ---- the walk to the place after the k-th c: the answer from place i on, with `left` still to pass
 

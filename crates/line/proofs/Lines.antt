@@ -23,9 +23,7 @@ use Rattle.files.proofs.Parts.{part-short}
 use Rattle.entry.specs.Entry.{space, entry}
 use Rattle.entry.specs.Handed.{Handed, verdictOf, fitsLayout}
 use Rattle.entry.specs.Draft.{draft}
-use Rattle.entry.proofs.Fields.{entry-length}
-use Rattle.entry.proofs.Fit.{parts-of}
-use Rattle.entry.proofs.Orders.{draft-verdict}
+use Rattle.entry.proofs.Sizes.{unfit-of, fit-of, drafted-of, size-of}
 use Rattle.line.specs.Told.{valueIn, numberIn, toldBy, handOf, handedBy, sameBytes, isEntry}
 use Rattle.line.specs.declared.Told.{Told}
 
@@ -76,33 +74,18 @@ value-some f j k b v e p q = rw (← e, ← p) q
 -- ---- whether a line is an entry
 
 module _ (l : List ℕ) (s : ℕ) (h : Handed) (w : ℕ) (size : w ≡ cond (fitsLayout h) (suc (length (entry 0 (draft h)))) 0) where
-  settle : (b : Bool) → fitsLayout h ≡ b → w ≡ cond b (suc (length (entry 0 (draft h)))) 0
-  settle b e = size ∙ ap (λ (x : Bool). cond x (suc (length (entry 0 (draft h)))) 0) e
-
-  fits-not : (b : Bool) → fitsLayout h ≡ b → w ≡ 0 → fitsLayout h ≡ false
-  fits-not true e z = absurd (omega (arith, settle true e))
-  fits-not false e z = e
-
-  fits-so : (b : Bool) → fitsLayout h ≡ b → w ≢ 0 → fitsLayout h ≡ true
-  fits-so true e z = e
-  fits-so false e z = absurd (z (settle false e))
-
   pub unfit : w ≡ 0 → fitsLayout h && sameBytes l (entry s (verdictOf h)) ≡ false
-  unfit z = rw (fits-not (fitsLayout h) refl z)
+  unfit z = rw (unfit-of h w size z)
 
   module _ (z : w ≢ 0) where
     fit : fitsLayout h ≡ true
-    fit = fits-so (fitsLayout h) refl z
+    fit = fit-of h w size z
 
     meant-here : draft h ≡ verdictOf h
-    meant-here = draft-verdict h (parts-of h fit .found)
+    meant-here = drafted-of h w size z
 
     long : length (entry s (verdictOf h)) ≡ w - 1
-    long =
-        ap (λ v. length (entry s v)) (sym meant-here)
-        ∙ entry-length s (draft h)
-        ∙ sym (entry-length 0 (draft h))
-        ∙ omega (arith, settle true fit)
+    long = omega (arith, size-of h w size z s)
 
     pub other-length : (w - 1 ≡ length l → ⊥) → fitsLayout h && sameBytes l (entry s (verdictOf h)) ≡ false
     other-length n = rw (fit, ne-eqb (length l) (length (entry s (verdictOf h))) (λ e. n (sym (e ∙ long))))
