@@ -1,12 +1,13 @@
 -- Runs of appends, reopenings and cuts. Each call gets the file as held, its length stated, in a buffer with any further bytes behind it.
 use mathlib.Core.Path.{_≡_}
+use mathlib.Core.Bool.{true}
 use mathlib.Core.List.{List, [], _∷_, _++_}
 use Prim.Native.Nat.{ℕ, suc, _+_}
 use lib.ListN.{length, take, drop}
 use Rattle.files.specs.Parts.{join}
 use Rattle.files.specs.Files.{LF, good, Cut}
 use Rattle.entry.specs.Entry.{entry}
-use Rattle.entry.specs.Handed.{Handed, verdictOf}
+use Rattle.entry.specs.Handed.{Handed, verdictOf, fitsLayout}
 use Rattle.book.specs.declared.Appended.the-variants.{Stated, Refused}
 use Rattle.book.specs.declared.Entry.{Entry}
 use Rattle.book.specs.Book.{appended}
@@ -18,6 +19,11 @@ linesFrom s (h ∷ hs) = entry s (verdictOf h) ∷ linesFrom (s + suc (length (e
 
 abbrev pub bookOf : List Handed → List ℕ
 bookOf hs = join LF (linesFrom 0 hs)
+
+-- verdicts that all fit the layout
+pub data AllFit : List Handed → Type 0 where
+  none-left : AllFit []
+  one-fits : {h : Handed} {hs : List Handed} → fitsLayout h ≡ true → AllFit hs → AllFit (h ∷ hs)
 
 -- what happens to a book
 pub data Event : Type 0 where

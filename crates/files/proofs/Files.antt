@@ -130,6 +130,9 @@ pub after-append : (buf b : List ℕ) (len : ℕ) → len ≤ length buf → goo
 after-append buf b len fits room =
     after-write buf (b ++ (LF ∷ [])) len (good (take len buf)) (omega (arith, good-le (take len buf), length-take-le len buf fits)) room ∙ sym (whole-bytes (take len buf) b)
 
+pub length-whole : (f b : List ℕ) → length (whole f b) ≡ max (length f) (good f + suc (length b))
+length-whole f b = simp (length-append, length-take, length-drop) (omega (arith, good-le f))
+
 -- ---- two cuts there are: nothing is written; all of the line but its LF is
 
 pub cut-nothing : (f b : List ℕ) → Cut f b f

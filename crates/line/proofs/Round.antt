@@ -32,6 +32,7 @@ use Rattle.entry.specs.Handed.{Handed, verdictOf, fitsLayout}
 use Rattle.entry.proofs.Bytes.{map-at}
 use Rattle.entry.proofs.Fit.{Parts, parts-of}
 use Rattle.entry.proofs.Clean.{fields-clean}
+use Rattle.entry.proofs.Fields.{entry-length}
 use Rattle.entry.proofs.Fitting.{fits-fitting, fitting-handed}
 use Rattle.line.specs.Told.{valueIn, numberIn, fieldIn, byteIn, witnessIn, findingIn, toldBy, handOf, handedBy, sameBytes, isEntry}
 use Rattle.line.specs.declared.Told.{Told}
@@ -188,6 +189,14 @@ handed-entry s h f =
   where
     hand : List ℕ → ℕ → ℕ → Finding → Handed
     hand a n r g = record { name = a; inputs = n; rows = r; finding = g }
+
+-- its name is the line's first bytes
+pub name-of-entry : (s : ℕ) (h : Handed) → fitsLayout h ≡ true → take (length (h .name)) (entry s (verdictOf h)) ≡ h .name
+unfolding line
+name-of-entry s h f = name-taken s h (parts-of h f)
+
+pub name-in-entry : (s : ℕ) (h : Handed) → length (h .name) ≤ length (entry s (verdictOf h))
+name-in-entry s h = omega (arith, entry-length s (verdictOf h))
 
 -- ---- lines that are entries
 
