@@ -1,0 +1,5 @@
+pub mod Opening
+pub mod Writing
+pub mod Appending
+pub mod Kept
+pub mod Runs
