@@ -1,6 +1,10 @@
 // Every public call for programs in C and in Rust. A call answers 0, or the number of a refusal, and tells through
 // `answer` what it was asked for, or the refusal's place.
 ghost use mathlib.Core.Path.{_≡_};
+ghost use Prim.Native.Nat.{_<_};
+ghost use lib.ListN.{getD};
+ghost use Rattle.base.specs.Listed.{listed};
+ghost use Rattle.verdict.specs.declared.Finding.the-variants.{Dependent};
 ghost use Rattle.value.specs.Value.{readByte};
 ghost use Rattle.table.specs.Area.{orX};
 ghost use Rattle.symbol.specs.Match.{matchLevel, matchChange};
@@ -8,9 +12,23 @@ ghost use Rattle.symbol.specs.Stored.{levelOf, symbolOf};
 ghost use Rattle.formed.specs.Tests.{wellFormed};
 ghost use Rattle.evaluation.specs.Call.{evaluated};
 ghost use Rattle.bankplover.specs.Told.{evaluationNumber, evaluationTold};
+ghost use Rattle.bankplover.specs.Books.{openedNumber, openedTold, openedCells, smallOf, saysValue, valueSaid, saysFinding, witnessFrom, findingFrom, handed, appendedNumber, appendedTold, letterOf, witnessNumber, entryNumber, fetchedNumber, fetchedTold, entryCells};
+ghost use Rattle.book.specs.Book.{opened as openedOf, appended, fetched};
+use book::Appended;
+use book::Fetched;
+use book::Opened;
 use evaluation::Evaluated;
 use value::Byte;
 use value::Ternary;
+use verdict::Finding;
+use verdict::Witness;
+
+// How many numbers a witness, an opened book and an entry have; outside/bankplover.h has the same.
+const WITNESS: usize = 8;
+
+const OPENED: usize = 3;
+
+const ENTRY: usize = 13;
 
 // The value that a byte says, x where it says none.
 fn value_in(b: u8) -> Ternary
@@ -71,6 +89,243 @@ pub extern "C" fn bankplover_evaluate(
             0
         }
         Evaluated::Refused(number, place) => {
+            *answer = place;
+            number
+        }
+    }
+}
+
+// Opens a book of which `stated` bytes count.
+#[no_mangle]
+pub extern "C" fn bankplover_open(
+    book: &[u8],
+    stated: usize,
+    opened: &mut [usize; OPENED],
+    answer: &mut usize,
+) -> u8
+    ensures { λ r. ⌜ r ≡ openedNumber (openedOf (now (book .entry)) stated) ⌝ }
+    ensures told { λ _. ⌜ now (answer .exit) ≡ openedTold (openedOf (now (book .entry)) stated) ⌝ }
+    ensures cells { λ _. ⌜ now (opened .exit) ≡ openedCells (now (opened .entry)) (openedOf (now (book .entry)) stated) ⌝ }
+{
+    let o = book::open_book(book, stated);
+    match o {
+        Opened::Book(g) => {
+            *answer = g.entries;
+            opened[0] = g.entries;
+            opened[1] = g.good;
+            opened[2] = g.torn;
+            0
+        }
+        Opened::Refused(number, place) => {
+            *answer = place;
+            number
+        }
+    }
+}
+
+fn small(k: usize) -> u8
+    ensures { λ r. ⌜ r ≡ smallOf k ⌝ }
+{
+    if k < 256 {
+        return k as u8;
+    }
+    0
+}
+
+fn says_value(l: &[usize; WITNESS], k: usize) -> bool
+    requires { ⌜ k < 8 ⌝ }
+    ensures { λ r. ⌜ r ≡ saysValue (now (l .entry)) k ⌝ }
+{
+    let said = Ternary::from_byte(small(l[k]));
+    match said {
+        Byte::Value(_) => true,
+        Byte::Other => false,
+    }
+}
+
+fn value_said(l: &[usize; WITNESS], k: usize) -> Ternary
+    requires { ⌜ k < 8 ⌝ }
+    ensures { λ r. ⌜ r ≡ valueSaid (now (l .entry)) k ⌝ }
+{
+    value_in(small(l[k]))
+}
+
+fn says_finding(letter: u8, l: &[usize; WITNESS]) -> bool
+    ensures { λ r. ⌜ r ≡ saysFinding letter (now (l .entry)) ⌝ }
+{
+    if letter == b'I' {
+        return true;
+    }
+    (letter == b'D')
+        & (says_value(l, 3)
+            & (says_value(l, 4) & (says_value(l, 5) & (says_value(l, 6) & says_value(l, 7)))))
+}
+
+fn witness_from(l: &[usize; WITNESS]) -> Witness
+    ensures { λ r. ⌜ r ≡ witnessFrom (now (l .entry)) ⌝ }
+{
+    let first = small(l[0]);
+    let second = small(l[1]);
+    let previous = l[2];
+    let first_now = value_said(l, 3);
+    let second_now = value_said(l, 4);
+    let old = value_said(l, 5);
+    let first_output = value_said(l, 6);
+    let second_output = value_said(l, 7);
+    Witness {
+        first: first,
+        second: second,
+        previous: previous,
+        first_now: first_now,
+        second_now: second_now,
+        old: old,
+        first_output: first_output,
+        second_output: second_output,
+    }
+}
+
+fn finding_from(letter: u8, l: &[usize; WITNESS]) -> Finding
+    ensures { λ r. ⌜ r ≡ findingFrom letter (now (l .entry)) ⌝ }
+{
+    if letter == b'I' {
+        return Finding::Independent;
+    }
+    Finding::Dependent(witness_from(l))
+}
+
+fn append_to(
+    book: &mut [u8],
+    stated: usize,
+    name: &[u8],
+    inputs: usize,
+    rows: usize,
+    letter: u8,
+    witness: &[usize; WITNESS],
+) -> Appended
+    ensures { λ r. ⌜ r ≡ appended (now (book .entry)) stated (handed (now (name .entry)) inputs rows letter (now (witness .entry))) .answer ⌝ }
+    ensures bytes { λ _. ⌜ now (book .exit) ≡ appended (now (book .entry)) stated (handed (now (name .entry)) inputs rows letter (now (witness .entry))) .bytes ⌝ }
+{
+    let finding = finding_from(letter, witness);
+    if says_finding(letter, witness) {
+        return book::append(book, stated, name, inputs, rows, finding);
+    }
+    book::append(book, stated, name, 0, rows, finding)
+}
+
+// Appends a verdict.
+#[no_mangle]
+pub extern "C" fn bankplover_append(
+    book: &mut [u8],
+    stated: usize,
+    name: &[u8],
+    inputs: usize,
+    rows: usize,
+    finding: u8,
+    witness: &[usize; WITNESS],
+    answer: &mut usize,
+) -> u8
+    ensures { λ r. ⌜ r ≡ appendedNumber (appended (now (book .entry)) stated (handed (now (name .entry)) inputs rows finding (now (witness .entry))) .answer) ⌝ }
+    ensures bytes { λ _. ⌜ now (book .exit) ≡ appended (now (book .entry)) stated (handed (now (name .entry)) inputs rows finding (now (witness .entry))) .bytes ⌝ }
+    ensures told { λ _. ⌜ now (answer .exit) ≡ appendedTold (appended (now (book .entry)) stated (handed (now (name .entry)) inputs rows finding (now (witness .entry))) .answer) ⌝ }
+{
+    let a = append_to(book, stated, name, inputs, rows, finding, witness);
+    match a {
+        Appended::Stated(m) => {
+            *answer = m;
+            0
+        }
+        Appended::Refused(number, place) => {
+            *answer = place;
+            number
+        }
+    }
+}
+
+fn letter_of(finding: Finding) -> u8
+    ensures { λ r. ⌜ r ≡ letterOf finding ⌝ }
+{
+    match finding {
+        Finding::Independent => b'I',
+        Finding::Dependent(_) => b'D',
+    }
+}
+
+fn number_in(w: Witness, k: usize) -> usize
+    ensures { λ r. ⌜ r ≡ witnessNumber (Dependent w) k ⌝ }
+{
+    let first_now = w.first_now;
+    let second_now = w.second_now;
+    let old = w.old;
+    let first_output = w.first_output;
+    let second_output = w.second_output;
+    match k {
+        0 => base::wide(w.first),
+        1 => base::wide(w.second),
+        2 => w.previous,
+        3 => base::wide(first_now.to_byte()),
+        4 => base::wide(second_now.to_byte()),
+        5 => base::wide(old.to_byte()),
+        6 => base::wide(first_output.to_byte()),
+        _ => base::wide(second_output.to_byte()),
+    }
+}
+
+fn witness_number(finding: Finding, k: usize) -> usize
+    ensures { λ r. ⌜ r ≡ witnessNumber finding k ⌝ }
+{
+    match finding {
+        Finding::Independent => 0,
+        Finding::Dependent(w) => number_in(w, k),
+    }
+}
+
+fn entry_number(e: book::Entry, k: usize) -> usize
+    ensures { λ r. ⌜ r ≡ entryNumber e k ⌝ }
+{
+    let finding = e.finding;
+    match k {
+        0 => e.name_at,
+        1 => e.name_length,
+        2 => e.inputs,
+        3 => e.rows,
+        4 => base::wide(letter_of(finding)),
+        _ => witness_number(finding, k - 5),
+    }
+}
+
+fn entry_numbers(e: book::Entry) -> [usize; ENTRY]
+    ensures { λ r. ⌜ r ≡ listed (entryNumber e) 13 ⌝ }
+{
+    let mut l = [0usize; ENTRY];
+    let mut k: usize = 0;
+    while k < ENTRY {
+        l[k] = entry_number(e, k);
+        k += 1;
+    }
+    l
+}
+
+// Fetches entry k, counted from 1.
+#[no_mangle]
+pub extern "C" fn bankplover_fetch(
+    book: &[u8],
+    stated: usize,
+    k: usize,
+    entry: &mut [usize; ENTRY],
+    answer: &mut usize,
+) -> u8
+    ensures { λ r. ⌜ r ≡ fetchedNumber (fetched (now (book .entry)) stated k) ⌝ }
+    ensures cells { λ _. ⌜ now (entry .exit) ≡ entryCells (now (entry .entry)) (fetched (now (book .entry)) stated k) ⌝ }
+    ensures told { λ _. ⌜ now (answer .exit) ≡ fetchedTold (fetched (now (book .entry)) stated k) ⌝ }
+{
+    let f = book::fetch(book, stated, k);
+    match f {
+        Fetched::Entry(e) => {
+            *answer = e.name_at;
+            *entry = entry_numbers(e);
+            0
+        }
+        Fetched::Refused(number, place) => {
             *answer = place;
             number
         }

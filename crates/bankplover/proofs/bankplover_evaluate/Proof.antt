@@ -9,10 +9,77 @@ unfolding evaluationNumber evaluationTold
 bankplover-evaluate-spec =
     tie.close
     (tie.spec
-    (λ c κs. search needs)
-    (λ c. search needs)
-    (λ c κs. search needs)
-    (λ c κs. search needs)
-    (λ c. search needs)
-    (λ c. rw (← c .before .before .before .before .before .evaluate .ensures, c .before .before .before .e .given .1, ← c .before .to-byte .ensures, ← c .wide .ensures) (refl, refl))
-    (λ c. rw (← c .before .before .before .evaluate .ensures, c .before .e2 .given .1) (refl, refl)))
+    (λ
+    c
+    κs.
+    search
+    needs)
+    (λ
+    c.
+    search
+    needs)
+    (λ
+    c
+    κs.
+    search
+    needs)
+    (λ
+    c
+    κs.
+    search
+    needs)
+    (λ
+    c.
+    search
+    needs)
+    (λ
+    c.
+    rw (
+      ←
+          c
+          .before
+          .before
+          .before
+          .before
+          .before
+          .evaluate
+          .ensures,
+      c
+          .before
+          .before
+          .before
+          .e
+          .given
+          .1,
+      ←
+          c
+          .before
+          .to-byte
+          .ensures,
+      ←
+          c
+          .wide
+          .ensures,
+    ) (
+      refl,
+      refl,
+    ))
+    (λ
+    c.
+    rw (
+      ←
+          c
+          .before
+          .before
+          .before
+          .evaluate
+          .ensures,
+      c
+          .before
+          .e2
+          .given
+          .1,
+    ) (
+      refl,
+      refl,
+    )))

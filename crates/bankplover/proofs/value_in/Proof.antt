@@ -8,8 +8,46 @@ unfolding orX
 value-in-spec =
     tie.close
     (tie.spec
-    (λ c κs. search needs)
-    (λ c. search needs)
-    (λ c. search needs)
-    (λ c. rw (← c .before .before .before .from-byte .ensures, c .before .said .given .1))
-    (λ c. rw (← c .before .before .from-byte .ensures, c .enum-told .given .1)))
+    (λ
+    c
+    κs.
+    search
+    needs)
+    (λ
+    c.
+    search
+    needs)
+    (λ
+    c.
+    search
+    needs)
+    (λ
+    c.
+    rw (
+      ←
+          c
+          .before
+          .before
+          .before
+          .from-byte
+          .ensures,
+      c
+          .before
+          .said
+          .given
+          .1,
+    ))
+    (λ
+    c.
+    rw (
+      ←
+          c
+          .before
+          .before
+          .from-byte
+          .ensures,
+      c
+          .enum-told
+          .given
+          .1,
+    )))
