@@ -1,6 +1,6 @@
 //! The book: opening, append, fetch, cuts and whole runs.
 
-use super::{cases, kind, same, show, Mismatch, Outcome, Stats};
+use super::{cases, kind, same, same_bytes, show, Mismatch, Outcome, Stats};
 use crate::book::cut::Pending;
 use crate::book::{append, fetch, open, Opened, Verdict};
 use crate::generate::books::{self, Lent};
@@ -43,7 +43,7 @@ pub fn compare_append(seed: u64, count: usize, other: &Append) -> Outcome {
             )
         };
         same("append's answer", seed, input, &answer, &their_answer)?;
-        same("append's buffer", seed, input, &show(&ours), &show(&theirs))?;
+        same_bytes("append's buffer", seed, input, &ours, &theirs)?;
         Ok(kind(&answer, "appended"))
     })
 }

@@ -1,6 +1,6 @@
 //! Evaluation: outputs and refusals.
 
-use super::{cases, kind, same, show, Mismatch, Outcome};
+use super::{cases, kind, same, show, Mismatch, Outcome, Stats};
 use crate::area::encode;
 use crate::evaluation::evaluate;
 use crate::generate::random::Random;
@@ -13,24 +13,41 @@ pub type Evaluate<'a> = dyn Fn(&[u8], &[u8], &[u8], u8, &[u8]) -> Result<u8, Ref
 pub fn compare_evaluation(seed: u64, count: usize, other: &Evaluate) -> Outcome {
     cases(seed, count, |seed, random| {
         let (area, n) = lent_table(random);
-        let prev = vectors::vector(random, n);
-        let mut lent = Lent {
-            cur: vectors::next_vector(random, &prev),
-            prev,
-            old: vectors::value(random),
-            order: vectors::order(random, n),
-        };
-        lent.spoil(random, n);
-        compare_one(
-            seed,
-            &area,
-            &lent.prev,
-            &lent.cur,
-            lent.old,
-            &lent.order,
-            other,
-        )
+        compare_call(seed, random, (&area, n), other)
     })
+}
+
+/// Several calls with each table, which takes longer to make than a call.
+pub fn compare_evaluations(seed: u64, tables: usize, calls: usize, other: &Evaluate) -> Outcome {
+    let mut stats = Stats::default();
+    for k in 0..tables as u64 {
+        let seed = seed.wrapping_add(k);
+        let random = &mut Random::new(seed);
+        let (area, n) = lent_table(random);
+        for _ in 0..calls {
+            stats.note(compare_call(seed, random, (&area, n), other)?);
+        }
+    }
+    Ok(stats)
+}
+
+/// Vectors, old output and order by chance, for an area and a number of inputs.
+fn compare_call(
+    seed: u64,
+    random: &mut Random,
+    (area, n): (&[u8], usize),
+    other: &Evaluate,
+) -> Result<String, Mismatch> {
+    let prev = vectors::vector(random, n);
+    let mut lent = Lent {
+        cur: vectors::next_vector(random, &prev),
+        prev,
+        old: vectors::value(random),
+        order: vectors::order(random, n),
+    };
+    lent.spoil(random, n);
+    let vectors = (&lent.prev[..], &lent.cur[..]);
+    compare_one(seed, area, vectors, lent.old, &lent.order, other)
 }
 
 struct Lent {
@@ -70,8 +87,7 @@ fn lent_table(random: &mut Random) -> (Vec<u8>, usize) {
 pub(super) fn compare_one(
     seed: u64,
     area: &[u8],
-    prev: &[u8],
-    cur: &[u8],
+    (prev, cur): (&[u8], &[u8]),
     old: u8,
     order: &[u8],
     other: &Evaluate,

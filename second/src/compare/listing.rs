@@ -1,6 +1,6 @@
 //! The lister's whole output.
 
-use super::{cases, same, show, Outcome};
+use super::{cases, same_bytes, show, Outcome};
 use crate::generate::texts;
 use crate::lister::list;
 
@@ -10,13 +10,7 @@ pub fn compare_listing(seed: u64, count: usize, other: &List) -> Outcome {
     cases(seed, count, |seed, random| {
         let text = texts::case(random).text;
         let ours = list(&text);
-        same(
-            "listing",
-            seed,
-            || show(&text),
-            &show(&ours),
-            &show(&other(&text)),
-        )?;
+        same_bytes("listing", seed, || show(&text), &ours, &other(&text))?;
         let refused = ours.windows(8).any(|word| word == b"refused ");
         Ok(if refused { "refused" } else { "listed" }.to_string())
     })

@@ -73,7 +73,7 @@ pub fn compare_matching_by_tables(other: &Evaluate) -> Outcome {
         let area = encode(&table);
         for case in 0..27 {
             let [from, to, old] = [case / 9, case / 3 % 3, case % 3].map(|k| Value::ALL[k].byte());
-            stats.note(compare_one(0, &area, &[from], &[to], old, &[1], other)?);
+            stats.note(compare_one(0, &area, (&[from], &[to]), old, &[1], other)?);
         }
     }
     Ok(stats)

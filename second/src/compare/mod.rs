@@ -22,9 +22,16 @@ pub struct Stats {
 }
 
 impl Stats {
-    fn note(&mut self, answer: impl Into<String>) {
+    pub fn note(&mut self, answer: impl Into<String>) {
         self.cases += 1;
         *self.answers.entry(answer.into()).or_default() += 1;
+    }
+
+    pub fn add(&mut self, other: Stats) {
+        self.cases += other.cases;
+        for (answer, count) in other.answers {
+            *self.answers.entry(answer).or_default() += count;
+        }
     }
 
     pub fn count(&self, answer: &str) -> usize {
@@ -53,7 +60,7 @@ impl fmt::Display for Mismatch {
 pub type Outcome = Result<Stats, Mismatch>;
 
 /// Runs cases from rising seeds; a case answers the kind of its answer.
-fn cases(
+pub fn cases(
     seed: u64,
     count: usize,
     one: impl Fn(u64, &mut Random) -> Result<String, Mismatch>,
@@ -67,7 +74,7 @@ fn cases(
 }
 
 /// Two answers to one input; the input is written out only where they differ.
-fn same<A: PartialEq + fmt::Debug>(
+pub fn same<A: PartialEq + fmt::Debug>(
     call: &'static str,
     seed: u64,
     input: impl Fn() -> String,
@@ -87,11 +94,25 @@ fn same<A: PartialEq + fmt::Debug>(
     })
 }
 
-fn show(bytes: &[u8]) -> String {
+/// Two results in bytes, which are written out only where they differ.
+pub fn same_bytes(
+    call: &'static str,
+    seed: u64,
+    input: impl Fn() -> String,
+    ours: &[u8],
+    theirs: &[u8],
+) -> Result<(), Mismatch> {
+    if ours == theirs {
+        return Ok(());
+    }
+    same(call, seed, input, &show(ours), &show(theirs))
+}
+
+pub fn show(bytes: &[u8]) -> String {
     format!("{} bytes \"{}\"", bytes.len(), bytes.escape_ascii())
 }
 
-fn kind<A>(answer: &Result<A, crate::Refusal>, good: &str) -> String {
+pub fn kind<A>(answer: &Result<A, crate::Refusal>, good: &str) -> String {
     match answer {
         Ok(_) => good.to_string(),
         Err(refusal) => format!("refused {}", refusal.number),

@@ -1,6 +1,6 @@
 //! Reading and well-formedness.
 
-use super::{cases, same, show, Mismatch, Outcome};
+use super::{cases, same, same_bytes, show, Mismatch, Outcome};
 use crate::area::{is_well_formed, SIZE};
 use crate::generate::random::Random;
 use crate::generate::{areas, texts};
@@ -31,7 +31,8 @@ pub fn compare_text(text: &[u8], other: &Read) -> Outcome {
     }
 }
 
-fn compare_read(
+/// One call.
+pub fn compare_read(
     seed: u64,
     text: &[u8],
     start: usize,
@@ -49,7 +50,7 @@ fn compare_read(
         )
     };
     same("reading's answer", seed, input, &answer, &their_answer)?;
-    same("reading's area", seed, input, &show(&ours), &show(&theirs))?;
+    same_bytes("reading's area", seed, input, &ours, &theirs)?;
     Ok(kind(answer))
 }
 
