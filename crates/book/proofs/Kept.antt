@@ -69,7 +69,7 @@ line-at s (a ∷ hs) d (suc k) h =
     let z : s + suc (length b) + length (join LF r) ≡ s + length (join LF (b ∷ r)) = omega (arith, joined b r) in
     line-at (s + suc (length b)) hs d k (omega arith) ∙ ap (λ (n : ℕ). entry n (verdictOf (getD hs k d))) z
 
-fit-at : {hs : List Handed} (d : Handed) (k : ℕ) → AllFit hs → k < length hs → fitsLayout (getD hs k d) ≡ true
+pub fit-at : {hs : List Handed} (d : Handed) (k : ℕ) → AllFit hs → k < length hs → fitsLayout (getD hs k d) ≡ true
 fit-at d k none-left h = absurd (omega arith)
 fit-at d zero (one-fits f fs) h = f
 fit-at d (suc k) (one-fits f fs) h = fit-at d k fs (omega arith)
@@ -90,6 +90,18 @@ opened-lines s k t (one-fits {h} {hs} f fs) =
     let x : suc k + length hs ≡ k + suc (length hs) = omega arith in
     let y : m + length (join LF (linesFrom m hs)) ≡ s + length (join LF (b ∷ linesFrom m hs)) = omega (arith, joined b (linesFrom m hs)) in
     rw (entry-is s h f) (opened-lines m (suc k) t fs ∙ rw (x, y))
+
+-- the first i lines are the lines of the first i verdicts
+take-lines : (s : ℕ) (hs : List Handed) (i : ℕ) → take i (linesFrom s hs) ≡ linesFrom s (take i hs)
+take-lines s hs zero = refl
+take-lines s [] (suc i) = refl
+take-lines s (h ∷ hs) (suc i) = ap (λ (l : List (List ℕ)). entry s (verdictOf h) ∷ l) (take-lines (s + suc (length (entry s (verdictOf h)))) hs i)
+
+-- one line more
+one-line : (bs : List (List ℕ)) (i : ℕ) → i < length bs → length (join LF (take (suc i) bs)) ≡ length (join LF (take i bs)) + suc (length (getD bs i []))
+one-line [] i h = absurd (omega arith)
+one-line (b ∷ bs) zero h = joined b [] ∙ omega arith
+one-line (b ∷ bs) (suc i) h = joined b (take (suc i) bs) ∙ omega (arith, one-line bs i (omega arith), joined b (take i bs))
 
 -- ---- a file that holds verdicts: their lines, then bytes without LF
 
@@ -144,10 +156,10 @@ module _ (f : List ℕ) (hs : List Handed) (k : Kept f hs) (rest : List ℕ) whe
   -- ---- fetch
 
   module _ (d : Handed) (i : ℕ) (inside : i < length hs) where
-    one : Handed
+    abbrev pub one : Handed
     one = getD hs i d
 
-    start : ℕ
+    abbrev pub start : ℕ
     start = length (join LF (take i (linesFrom 0 hs)))
 
     tail : List ℕ
@@ -161,27 +173,24 @@ module _ (f : List ℕ) (hs : List Handed) (k : Kept f hs) (rest : List ℕ) whe
     in-lines = omega (arith, lines-length 0 hs)
 
     fits-one : fitsLayout one ≡ true
-    unfolding one
     fits-one = fit-at d i (k .fit) inside
 
     line-is : getD (linesFrom 0 hs) i [] ≡ entry start (verdictOf one)
-    unfolding one start
     line-is =
         let z : 0 + length (join LF (take i (linesFrom 0 hs))) ≡ length (join LF (take i (linesFrom 0 hs))) = omega arith in
         line-at 0 hs d i inside ∙ rw z
 
-    told : Told
+    abbrev pub told : Told
     told = record { «name_length» = length (one .name); inputs = one .inputs; rows = one .rows; finding = one .finding }
 
     entry-found : entryOf buffer i ≡ entryAt start told
-    unfolding entryOf told start
+    unfolding entryOf
     entry-found =
         ap₂ entryAt
         (ap (afterMark LF i) bytes-are ∙ after-join LF tail i (lines-clean 0 (k .fit)) (omega (arith, in-lines)))
         (ap toldBy (ap (partAt LF i) bytes-are ∙ part-join LF tail i (lines-clean 0 (k .fit)) in-lines ∙ line-is) ∙ told-entry start one fits-one)
 
     name-found : take (length (one .name)) (drop start buffer) ≡ one .name
-    unfolding start
     name-found =
         let b : List ℕ = entry start (verdictOf one) in
         let behind : List ℕ = LF ∷ (join LF (drop (suc i) (linesFrom 0 hs)) ++ tail) in
@@ -190,19 +199,44 @@ module _ (f : List ℕ) (hs : List Handed) (k : Kept f hs) (rest : List ℕ) whe
         ∙ take-append-le (length (one .name)) b behind (name-in-entry start one)
         ∙ name-of-entry start one fits-one
 
-    pub kept-fetched : (e : Entry) × (fetched buffer (length f) (suc i) ≡ fetch.Entry e) × (heldIn buffer e ≡ getD hs i d)
-    unfolding fetched one told
-    kept-fetched = (
-      entryAt start told,
-      rw (kept-opened, ne-eqb (suc i) 0 (λ z. omega arith), le-ltb (length hs) (suc i) (omega arith), less) (ap fetch.Entry entry-found),
-      ap (λ (a : List ℕ). hand a) name-found,
-    )
-      where
-        less : suc i - 1 ≡ i
-        less = omega arith
+    pub fetched-is : fetched buffer (length f) (suc i) ≡ fetch.Entry (entryAt start told)
+    unfolding fetched
+    fetched-is =
+        let less : suc i - 1 ≡ i = omega arith in
+        rw (kept-opened, ne-eqb (suc i) 0 (λ z. omega arith), le-ltb (length hs) (suc i) (omega arith), less) (ap fetch.Entry entry-found)
 
+    pub kept-fetched : (e : Entry) × (fetched buffer (length f) (suc i) ≡ fetch.Entry e) × (heldIn buffer e ≡ getD hs i d)
+    kept-fetched = (entryAt start told, fetched-is, ap (λ (a : List ℕ). hand a) name-found)
+      where
         hand : List ℕ → Handed
         hand a = record { name = a; inputs = one .inputs; rows = one .rows; finding = one .finding }
+
+    -- what stands before the entry, and behind it
+    abbrev pub ahead : List ℕ
+    ahead = join LF (take i (linesFrom 0 hs))
+
+    abbrev pub behind : List ℕ
+    behind = join LF (drop (suc i) (linesFrom 0 hs)) ++ (k .held .tail ++ rest)
+
+    pub standing : buffer ≡ ahead ++ (entry (length ahead) (verdictOf one) ++ (LF ∷ behind))
+    unfolding tail
+    standing = bytes-are ∙ part-in LF (linesFrom 0 hs) tail i in-lines ∙ ap (λ (l : List ℕ). ahead ++ (l ++ (LF ∷ behind))) line-is
+
+    -- where the first i entries end, and where the next one does
+    pub starts-at : length (bookOf (take i hs)) ≡ length ahead
+    starts-at = ap (λ (l : List (List ℕ)). length (join LF l)) (sym (take-lines 0 hs i))
+
+    pub ends-at : length (bookOf (take (suc i) hs)) ≡ length ahead + suc (length (entry (length ahead) (verdictOf one)))
+    ends-at =
+        ap (λ (l : List (List ℕ)). length (join LF l)) (sym (take-lines 0 hs (suc i)))
+        ∙ one-line (linesFrom 0 hs) i in-lines
+        ∙ ap (λ (l : List ℕ). length ahead + suc (length l)) line-is
+
+    pub ahead-short : length ahead ≤ bookLimit
+    ahead-short =
+        let r : List ℕ = getD (linesFrom 0 hs) i [] ++ (LF ∷ (join LF (drop (suc i) (linesFrom 0 hs)) ++ k .held .tail)) in
+        let e : length f ≡ length (ahead ++ r) = ap length (k .held .file ∙ part-in LF (linesFrom 0 hs) (k .held .tail) i in-lines) in
+        omega (arith, e, length-append ahead r, k .short)
 
   -- ---- append
 

@@ -3,3 +3,4 @@ pub mod Writing
 pub mod Appending
 pub mod Kept
 pub mod Runs
+pub mod Cases

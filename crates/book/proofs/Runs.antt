@@ -18,7 +18,7 @@ use Rattle.book.specs.Runs.{bookOf, AllFit, none-left, Event, append, ap
 use Rattle.book.proofs.Kept.{Kept, kept-book, place-good, found, kept-opened, kept-fetched, kept-refused, kept-whole, kept-more, kept-cut}
 
 -- what a run keeps up
-run-kept : {base : List Handed} {es : List Event} {f : List ℕ} → AllFit base → length (bookOf base) ≤ bookLimit → Run base es f → Kept f (stored base es)
+pub run-kept : {base : List Handed} {es : List Event} {f : List ℕ} → AllFit base → length (bookOf base) ≤ bookLimit → Run base es f → Kept f (stored base es)
 run-kept {base} v l begin = kept-book base v l
 run-kept {base} v l (appends {es} {f} h rest m r e) =
     let k : Kept f (stored base es) = run-kept v l r in
