@@ -1,1 +1,4 @@
 pub mod Ranks
+pub mod Findings
+pub mod Once
+pub mod Numbers

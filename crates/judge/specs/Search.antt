@@ -88,3 +88,12 @@ yesIn f n i j = not (pairDiffers f n i j || pairDiffers f n j i)
 
 unfoldable pub squareIn : List ℕ → ℕ → List (List Bool)
 squareIn f n = listed (λ (i : ℕ). listed (yesIn f n i) inputLimit) inputLimit
+
+-- the numbers that the search of a pair works with are small
+pub record Numbers (bi bj wi wj : ℕ) : Type 0 where
+  pub first-block : bi ≤ 200000
+  pub second-block : bj ≤ 200000
+  pub first-some : 0 < wi
+  pub first-most : wi ≤ 6561
+  pub second-some : 0 < wj
+  pub second-most : wj ≤ 6561
