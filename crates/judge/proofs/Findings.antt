@@ -36,6 +36,24 @@ of-same : (x y : Ternary) → sameValue x y ≡ true → x ≡ y
 unfolding sameValue
 of-same x y e = rank-same x y (eqb-true (rankOf x) (rankOf y) e)
 
+-- what a pair that differs tells
+pub record Told (f : List ℕ) (n i j : ℕ) : Type 0 where
+  pub rising : i < j
+  pub last : j < n
+  pub counted : firstIn f n i j < candidates n
+
+pub told : (f : List ℕ) (n i j : ℕ) → pairDiffers f n i j ≡ true → Told f n i j
+unfolding pairDiffers
+told f n i j e =
+    let p = both (ltb i j) _ e in
+    let q = both (ltb j n) _ (p .1) in
+    record { rising = ltb-true i j (p .0); last = ltb-true j n (q .0); counted = ltb-true (firstIn f n i j) (candidates n) (q .1) }
+
+-- the pair that is found differs
+pub pair-told : (f : List ℕ) (n p : ℕ) → p ≡ firstPair f n → p < pairs → Told f n (p / inputLimit) (p % inputLimit)
+unfolding firstPair
+pair-told f n p e h = told f n (p / inputLimit) (p % inputLimit) (rw (← e) at (first-holds (λ (q : ℕ). pairDiffers f n (q / inputLimit) (q % inputLimit)) pairs (rw e at h)))
+
 module _ {n : ℕ} {phi : Step} (L : Laws n phi) {f : List ℕ} (M : Memo n phi f) where
   module _ (i j : ℕ) (lt : i < j) (lj : j < n) where
     apart : i ≢ j
@@ -61,19 +79,6 @@ module _ {n : ℕ} {phi : Step} (L : Laws n phi) {f : List ℕ} (M : Memo n phi 
         let z : ltb (first (candidates n) (differsIn f n i j)) (candidates n) ≡ false = rw (lt-ltb i j lt, lt-ltb j n lj) at e in
         agrees-of s ls (first-below (differsIn f n i j) (candidates n) s (omega (arith, ltb-false (first (candidates n) (differsIn f n i j)) (candidates n) z)))
 
-  -- what a pair that differs tells
-  record Told (i j : ℕ) : Type 0 where
-    rising : i < j
-    last : j < n
-    counted : firstIn f n i j < candidates n
-
-  told : (i j : ℕ) → pairDiffers f n i j ≡ true → Told i j
-  unfolding pairDiffers
-  told i j e =
-      let p = both (ltb i j) _ e in
-      let q = both (ltb j n) _ (p .1) in
-      record { rising = ltb-true i j (p .0); last = ltb-true j n (q .0); counted = ltb-true (firstIn f n i j) (candidates n) (q .1) }
-
   module _ (most : n ≤ inputLimit) where
     abbrev test : ℕ → Bool
     test p = pairDiffers f n (p / inputLimit) (p % inputLimit)
@@ -92,7 +97,7 @@ module _ {n : ℕ} {phi : Step} (L : Laws n phi) {f : List ℕ} (M : Memo n phi 
     first-at p none here =
         let i : ℕ = p / inputLimit in
         let j : ℕ = p % inputLimit in
-        let t : Told i j = told i j here in
+        let t : Told f n i j = told f n i j here in
         record {
           one = omega arith;
           rising = omega (arith, t .rising);
@@ -111,7 +116,7 @@ module _ {n : ℕ} {phi : Step} (L : Laws n phi) {f : List ℕ} (M : Memo n phi 
 
         between : (b s : ℕ) → suc (p / inputLimit) < b → b < suc (p % inputLimit) → s < candidates n → Disagrees n (Every n) phi (suc (p / inputLimit)) b s → ⊥
         between zero s ib bj ls d = absurd (omega arith)
-        between (suc b) s ib bj ls d = earlier p (p / inputLimit) b none (omega arith) (omega (arith, told (p / inputLimit) (p % inputLimit) here .last)) (omega arith) s ls d
+        between (suc b) s ib bj ls d = earlier p (p / inputLimit) b none (omega arith) (omega (arith, told f n (p / inputLimit) (p % inputLimit) here .last)) (omega arith) s ls d
 
     none-at : ((q : ℕ) → q < pairs → test q ≡ false) → (i j r : ℕ) → 1 ≤ i → i < j → j ≤ n → r < candidates n → Disagrees n (Every n) phi i j r → ⊥
     none-at none zero j r a b c h = absurd (omega arith)
@@ -140,7 +145,7 @@ module _ {n : ℕ} {phi : Step} (L : Laws n phi) {f : List ℕ} (M : Memo n phi 
         go true e =
             let p : ℕ = first pairs test in
             let here : test p ≡ true = first-holds test pairs (ltb-true p pairs e) in
-            let t : Told (p / inputLimit) (p % inputLimit) = told (p / inputLimit) (p % inputLimit) here in
+            let t : Told f n (p / inputLimit) (p % inputLimit) = told f n (p / inputLimit) (p % inputLimit) here in
             witness-right (p / inputLimit) (p % inputLimit) (firstIn f n (p / inputLimit) (p % inputLimit)) (t .rising) (t .last) (first-at p (first-below test pairs) here)
         go false e = judged-iff L (every-family n) .1 (none-at (λ q h. first-below test pairs q (omega (arith, ltb-false (first pairs test) pairs e))))
 

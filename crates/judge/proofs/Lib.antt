@@ -2,3 +2,4 @@ pub mod Ranks
 pub mod Findings
 pub mod Once
 pub mod Numbers
+pub mod Lending

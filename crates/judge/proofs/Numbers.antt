@@ -2,6 +2,7 @@
 use Prim.Native.Nat.{ℕ, zero, suc, _+_, _-_, _*_, _/_, _%_, _^_, _<_, _≤_}
 use mathlib.Core.Path.{_≡_, refl, sym, ap, _∙_}
 use mathlib.Core.Bool.{Bool, true, false}
+use mathlib.Core.List.{List}
 use mathlib.Core.Logic.{⊎-elim}
 use native.Mathlib.Nat.{mul-le-mul, pow-le-pow-right, pow-suc}
 use native.Mathlib.Numerals.{add-one}
@@ -10,7 +11,7 @@ use lib.Dec.{lit<}
 use Rattle.base.specs.Search.{first}
 use Rattle.base.proofs.Search.{first-below, first-found, first-none, first-holds}
 use Rattle.base.proofs.Bools.{lt-or-ge}
-use Rattle.judge.specs.Search.{weight, Numbers}
+use Rattle.judge.specs.Search.{weight, differsAt, differsIn, firstIn, Numbers}
 
 -- a value's number times a weight
 pub product-low : (x w : ℕ) → x < 3 → w ≤ 6561 → x * w ≤ 13122
@@ -65,3 +66,9 @@ found-case g h e m v c lv below ec lc =
 pub next-vector : (g : ℕ → Bool) (h : ℕ → ℕ → Bool) → ((s : ℕ) → g s ≡ h (s / 27) (s % 27)) → (v c : ℕ) → ((s : ℕ) → s < v * 27 → g s ≡ false) →
     c ≡ first 27 (h v) → 27 ≤ c → (s : ℕ) → s < (v + 1) * 27 → g s ≡ false
 next-vector g h e v c below ec lc s ls = below-cases g h e v below 27 (omega arith) (omega arith) s (omega arith)
+
+-- the code's search of a pair is the search of its candidates
+pub scan-is : (f : List ℕ) (n i j m wi wj r : ℕ) → m ≡ 3 ^ n → wi ≡ weight n i → wj ≡ weight n j →
+    r ≡ first (m * 27) (λ (s : ℕ). differsAt f (i * m) (j * m) wi wj (s / 27) (s % 27)) → r ≡ firstIn f n i j
+unfolding firstIn differsIn
+scan-is f n i j m wi wj r em ei ej h = rw (em, ei, ej) at h

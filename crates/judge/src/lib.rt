@@ -156,10 +156,10 @@ fn pair_differs(f: &[u8], n: usize, i: usize, j: usize) -> bool
     requires { ⌜ n ≤ 9 ⌝ }
     ensures { λ r. ⌜ r ≡ pairDiffers (now (f .entry)) n i j ⌝ }
 {
-    if n <= j {
+    if j <= i {
         return false;
     }
-    if j <= i {
+    if n <= j {
         return false;
     }
     first_difference(f, n, i, j) < memo::power(n) * 27
@@ -279,4 +279,84 @@ fn found_in(area: &[u8], f: &mut [u8]) -> Finding
 {
     memo::fill(area, f);
     finding(f, table::inputs(area))
+}
+
+// The square, with room for the steps in f.
+fn square_in(area: &[u8], f: &mut [u8]) -> [[bool; base::INPUTS]; base::INPUTS]
+    requires { ⌜ Small (decode (now area)) × (decode (now area) .inputs * 3 ^ (decode (now area) .inputs) * 9 ≤ length (now f)) ⌝ }
+    ensures { λ r. ⌜ r ≡ squareOf (decode (now (area .entry)) .inputs) (stepOf (decode (now (area .entry)))) ⌝ }
+{
+    memo::fill(area, f);
+    square_at(f, table::inputs(area))
+}
+
+// Room for four inputs, for six, and for nine.
+fn found_four(area: &[u8]) -> Finding
+    requires { ⌜ Small (decode (now area)) × (decode (now area) .inputs ≤ 4) ⌝ }
+    ensures { λ r. ⌜ RightFinding (decode (now (area .entry)) .inputs) (stepOf (decode (now (area .entry)))) r ⌝ }
+{
+    let mut f = [0u8; 2916];
+    found_in(area, &mut f)
+}
+
+fn found_six(area: &[u8]) -> Finding
+    requires { ⌜ Small (decode (now area)) × (decode (now area) .inputs ≤ 6) ⌝ }
+    ensures { λ r. ⌜ RightFinding (decode (now (area .entry)) .inputs) (stepOf (decode (now (area .entry)))) r ⌝ }
+{
+    let mut f = [0u8; 39366];
+    found_in(area, &mut f)
+}
+
+fn found_nine(area: &[u8]) -> Finding
+    requires { ⌜ Small (decode (now area)) ⌝ }
+    ensures { λ r. ⌜ RightFinding (decode (now (area .entry)) .inputs) (stepOf (decode (now (area .entry)))) r ⌝ }
+{
+    let mut f = [0u8; 1594323];
+    found_in(area, &mut f)
+}
+
+fn square_four(area: &[u8]) -> [[bool; base::INPUTS]; base::INPUTS]
+    requires { ⌜ Small (decode (now area)) × (decode (now area) .inputs ≤ 4) ⌝ }
+    ensures { λ r. ⌜ r ≡ squareOf (decode (now (area .entry)) .inputs) (stepOf (decode (now (area .entry)))) ⌝ }
+{
+    let mut f = [0u8; 2916];
+    square_in(area, &mut f)
+}
+
+fn square_nine(area: &[u8]) -> [[bool; base::INPUTS]; base::INPUTS]
+    requires { ⌜ Small (decode (now area)) ⌝ }
+    ensures { λ r. ⌜ r ≡ squareOf (decode (now (area .entry)) .inputs) (stepOf (decode (now (area .entry)))) ⌝ }
+{
+    let mut f = [0u8; 1594323];
+    square_in(area, &mut f)
+}
+
+// Judges a lent table: independent of the order, or the first disagreement.
+pub fn judge(area: &[u8]) -> Judged
+    ensures { λ r. ⌜ Right (now (area .entry)) r ⌝ }
+{
+    if !formed::well_formed(area) {
+        return Judged::Refused(10, 0);
+    }
+    let n = table::inputs(area);
+    if n <= 4 {
+        return Judged::Found(found_four(area));
+    }
+    if n <= 6 {
+        return Judged::Found(found_six(area));
+    }
+    Judged::Found(found_nine(area))
+}
+
+// The pairwise answers of a lent table; all false where it is not well formed.
+pub fn square(area: &[u8]) -> [[bool; base::INPUTS]; base::INPUTS]
+    ensures { λ r. ⌜ r ≡ squareFor (now (area .entry)) ⌝ }
+{
+    if !formed::well_formed(area) {
+        return [[false; base::INPUTS]; base::INPUTS];
+    }
+    if table::inputs(area) <= 4 {
+        return square_four(area);
+    }
+    square_nine(area)
 }

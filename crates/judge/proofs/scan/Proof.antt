@@ -1,54 +1,18 @@
+use Prim.Native.Nat.{ℕ, _*_, _/_, _%_, _<_, _≤_, _-_}
+use mathlib.Core.Path.{_≡_, refl, sym, _∙_}
+use mathlib.Core.Bool.{false}
+use native.Mathlib.Omega.{arith}
+use Rattle.base.proofs.Search.{first-none}
+use Rattle.judge.specs.Search.{differsAt}
+use Rattle.judge.proofs.Numbers.{found-case, next-vector}
 use Rattle.judge.proofs.scan.Statement.{statement}
 use Rattle.judge.proofs.scan.Tie as tie
-use Rattle.judge.proofs.scan.Reads as reads
-use Rattle.judge.proofs.scan.Lts as lts
-use Rattle.judge.proofs.first_case.Reads as first-case-reads
 
 abbrev Inv-loop : tie.InvT-loop
-Inv-loop f bi bj wi wj m v₀ v = ?
+Inv-loop f bi bj wi wj m v₀ v = (v ≤ m) × ((s : ℕ) → s < v * 27 → differsAt f bi bj wi wj (s / 27) (s % 27) ≡ false)
 
 abbrev μ-loop : tie.MeasureT-loop
-μ-loop f bi bj wi wj m v₀ v = ?
-
--- src/lib.rt:135:5
-loop-holds : tie.Need-loop-holds Inv-loop μ-loop
-loop-holds c = ?
-
--- src/lib.rt:136:13
-first-case-requires : tie.Need-first-case-requires Inv-loop μ-loop
-first-case-requires c κs = ?
-
--- src/lib.rt:138:20
-mul-result : tie.Need-mul-result Inv-loop μ-loop
-mul-result c = ?
-
--- src/lib.rt:138:20
-add-result : tie.Need-add-result Inv-loop μ-loop
-add-result c = ?
-
--- src/lib.rt:138:13
-returns : tie.Need-returns Inv-loop μ-loop
-returns c = ?
-
--- src/lib.rt:140:9
-add-v : tie.Need-add-v Inv-loop μ-loop
-add-v c = ?
-
--- src/lib.rt:135:5
-loop-less : tie.Need-loop-less Inv-loop μ-loop
-loop-less c = ?
-
--- src/lib.rt:135:5
-loop-again : tie.Need-loop-again Inv-loop μ-loop
-loop-again c = ?
-
--- src/lib.rt:142:5
-mul-result-2 : tie.Need-mul-result-2 Inv-loop μ-loop
-mul-result-2 c = ?
-
--- src/lib.rt:130:1
-returns-2 : tie.Need-returns-2 Inv-loop μ-loop
-returns-2 c = ?
+μ-loop f bi bj wi wj m v₀ v = m - v
 
 pub scan-spec : {M : Type 1} → statement M
 scan-spec =
@@ -56,13 +20,19 @@ scan-spec =
     (tie.spec
     Inv-loop
     μ-loop
-    loop-holds
-    first-case-requires
-    mul-result
-    add-result
-    returns
-    add-v
-    loop-less
-    loop-again
-    mul-result-2
-    returns-2)
+    (λ c. (omega arith, λ s h. absurd (omega arith)))
+    (λ c κs. (c .before .before .before .pre .0, omega arith))
+    (λ c. omega arith)
+    (λ c. omega arith)
+    (λ c.
+      let l = c .before .before .before in
+      let s = l .before .before .args in
+      found-case (λ (q : ℕ). differsAt (s .f .now) (s .bi) (s .bj) (s .wi) (s .wj) (q / 27) (q % 27)) (differsAt (s .f .now) (s .bi) (s .bj) (s .wi) (s .wj)) (λ q. refl) _ _ _ (c .before .before .loop-test .taken) (l .loop .inv .1) (c .before .first-case .ensures) (c .if1 .taken))
+    (λ c. omega arith)
+    (λ c. omega arith)
+    (λ c.
+      let l = c .before .before .before in
+      let s = l .before .before .args in
+      (omega arith, next-vector (λ (q : ℕ). differsAt (s .f .now) (s .bi) (s .bj) (s .wi) (s .wj) (q / 27) (q % 27)) (differsAt (s .f .now) (s .bi) (s .bj) (s .wi) (s .wj)) (λ q. refl) _ _ (l .loop .inv .1) (c .before .first-case .ensures) (c .if1 .left)))
+    (λ c. omega arith)
+    (λ c. let e : c .before .loop .v ≡ c .before .before .before .args .m = omega arith in sym (first-none _ _ (rw e at (c .before .loop .inv .1)))))
