@@ -68,8 +68,8 @@ module _ {n : ℕ} {phi : Step} (L : Laws n phi) {f : List ℕ} (M : Memo n phi 
     differs-of s ls e = record {
       admitted = (vector-number n (s / 27), vector-put (suc j) (secondNow s) (vector-put (suc i) (firstNow s) (vector-number n (s / 27))));
       differ = λ q.
-        let p : not (sameValue (firstOutput n phi (suc i) (suc j) s) (secondOutput n phi (suc i) (suc j) s)) ≡ true = sym (differs-is L M i j (omega arith) lj apart s ls) ∙ e in
-        clash (sym (same-of _ _ q) ∙ not-true _ p);
+          let p : not (sameValue (firstOutput n phi (suc i) (suc j) s) (secondOutput n phi (suc i) (suc j) s)) ≡ true = sym (differs-is L M i j (omega arith) lj apart s ls) ∙ e in
+          clash (sym (same-of _ _ q) ∙ not-true _ p);
     }
 
     -- a pair that does not differ has no disagreement
@@ -170,9 +170,9 @@ module _ {n : ℕ} {phi : Step} (L : Laws n phi) {f : List ℕ} (M : Memo n phi 
   unfolding pairDiffers firstIn disagree
   pair-is i j =
       guarded (ltb i j) (ltb j n) _ _ (λ a b.
-        let lt : i < j = ltb-true i j a in
-        let lj : j < n = ltb-true j n b in
-        first-some (candidates n) (differsIn f n i j) _ (λ r h. differs-is L M i j (omega arith) lj (λ e. omega arith) r h))
+      let lt : i < j = ltb-true i j a in
+      let lj : j < n = ltb-true j n b in
+      first-some (candidates n) (differsIn f n i j) _ (λ r h. differs-is L M i j (omega arith) lj (λ e. omega arith) r h))
 
   yes-is : (i j : ℕ) → yesIn f n i j ≡ pairYes n phi i j
   unfolding yesIn pairYes

@@ -40,9 +40,9 @@ module _ {n : ℕ} {phi : Step} (L : Laws n phi) {f : List ℕ} (M : Memo n phi 
 
   -- the order of two columns: u is the vector once the first has changed, w once both have
   module _ (i j v u w a b q : ℕ) (x y : Ternary) (li : i < n) (lj : j < n) (ne : i ≢ j) (lu : u < 3 ^ n) (lw : w < 3 ^ n) (la : a < 3) (lb : b < 3) (lq : q < 3)
-    (c : List Ternary) (only : c ≡ put (put (vectorOf n v) (suc i) x) (suc j) y)
-    (eu : vectorOf n u ≡ put (vectorOf n v) (suc i) x) (ew : vectorOf n w ≡ c)
-    (ea : at (vectorOf n v) (suc i) ≡ valueOf a) (eb : at (vectorOf n v) (suc j) ≡ valueOf b) where
+      (c : List Ternary) (only : c ≡ put (put (vectorOf n v) (suc i) x) (suc j) y)
+      (eu : vectorOf n u ≡ put (vectorOf n v) (suc i) x) (ew : vectorOf n w ≡ c)
+      (ea : at (vectorOf n v) (suc i) ≡ valueOf a) (eb : at (vectorOf n v) (suc j) ≡ valueOf b) where
     abbrev p : List Ternary
     p = vectorOf n v
 

@@ -188,7 +188,19 @@ fn output_at(f: &[u8], n: usize, i: usize, j: usize, r: usize) -> usize
     let wj = memo::power(n - (j + 1));
     let v = r / 27;
     let c = r % 27;
-    first_rank(f, i * m, j * m, wi, wj, v / wi % 3, v / wj % 3, v, c / 9, c / 3 % 3, c % 3)
+    first_rank(
+        f,
+        i * m,
+        j * m,
+        wi,
+        wj,
+        v / wi % 3,
+        v / wj % 3,
+        v,
+        c / 9,
+        c / 3 % 3,
+        c % 3,
+    )
 }
 
 fn other_at(f: &[u8], n: usize, i: usize, j: usize, r: usize) -> usize
@@ -200,7 +212,19 @@ fn other_at(f: &[u8], n: usize, i: usize, j: usize, r: usize) -> usize
     let wj = memo::power(n - (j + 1));
     let v = r / 27;
     let c = r % 27;
-    second_rank(f, i * m, j * m, wi, wj, v / wi % 3, v / wj % 3, v, c / 9, c / 3 % 3, c % 3)
+    second_rank(
+        f,
+        i * m,
+        j * m,
+        wi,
+        wj,
+        v / wi % 3,
+        v / wj % 3,
+        v,
+        c / 9,
+        c / 3 % 3,
+        c % 3,
+    )
 }
 
 fn witness_at(f: &[u8], n: usize, i: usize, j: usize, r: usize) -> Witness
@@ -290,29 +314,27 @@ fn square_in(area: &[u8], f: &mut [u8]) -> [[bool; base::INPUTS]; base::INPUTS]
     square_at(f, table::inputs(area))
 }
 
-// Room for four inputs, for six, and for nine.
+// Room for four inputs, for six, and for nine: the length is in the type, so that no list of zeros is ever written out.
+fn found_by_four(area: &[u8], f: &mut [u8; 2916]) -> Finding
+    requires { ⌜ Small (decode (now area)) × (decode (now area) .inputs ≤ 4) ⌝ }
+    ensures { λ r. ⌜ RightFinding (decode (now (area .entry)) .inputs) (stepOf (decode (now (area .entry)))) r ⌝ }
+{
+    found_in(area, f)
+}
+
 fn found_four(area: &[u8]) -> Finding
     requires { ⌜ Small (decode (now area)) × (decode (now area) .inputs ≤ 4) ⌝ }
     ensures { λ r. ⌜ RightFinding (decode (now (area .entry)) .inputs) (stepOf (decode (now (area .entry)))) r ⌝ }
 {
     let mut f = [0u8; 2916];
-    found_in(area, &mut f)
+    found_by_four(area, &mut f)
 }
 
-fn found_six(area: &[u8]) -> Finding
-    requires { ⌜ Small (decode (now area)) × (decode (now area) .inputs ≤ 6) ⌝ }
-    ensures { λ r. ⌜ RightFinding (decode (now (area .entry)) .inputs) (stepOf (decode (now (area .entry)))) r ⌝ }
+fn square_by_four(area: &[u8], f: &mut [u8; 2916]) -> [[bool; base::INPUTS]; base::INPUTS]
+    requires { ⌜ Small (decode (now area)) × (decode (now area) .inputs ≤ 4) ⌝ }
+    ensures { λ r. ⌜ r ≡ squareOf (decode (now (area .entry)) .inputs) (stepOf (decode (now (area .entry)))) ⌝ }
 {
-    let mut f = [0u8; 39366];
-    found_in(area, &mut f)
-}
-
-fn found_nine(area: &[u8]) -> Finding
-    requires { ⌜ Small (decode (now area)) ⌝ }
-    ensures { λ r. ⌜ RightFinding (decode (now (area .entry)) .inputs) (stepOf (decode (now (area .entry)))) r ⌝ }
-{
-    let mut f = [0u8; 1594323];
-    found_in(area, &mut f)
+    square_in(area, f)
 }
 
 fn square_four(area: &[u8]) -> [[bool; base::INPUTS]; base::INPUTS]
@@ -320,15 +342,67 @@ fn square_four(area: &[u8]) -> [[bool; base::INPUTS]; base::INPUTS]
     ensures { λ r. ⌜ r ≡ squareOf (decode (now (area .entry)) .inputs) (stepOf (decode (now (area .entry)))) ⌝ }
 {
     let mut f = [0u8; 2916];
-    square_in(area, &mut f)
+    square_by_four(area, &mut f)
+}
+
+fn found_by_six(area: &[u8], f: &mut [u8; 39366]) -> Finding
+    requires { ⌜ Small (decode (now area)) × (decode (now area) .inputs ≤ 6) ⌝ }
+    ensures { λ r. ⌜ RightFinding (decode (now (area .entry)) .inputs) (stepOf (decode (now (area .entry)))) r ⌝ }
+{
+    found_in(area, f)
+}
+
+fn found_six(area: &[u8]) -> Finding
+    requires { ⌜ Small (decode (now area)) × (decode (now area) .inputs ≤ 6) ⌝ }
+    ensures { λ r. ⌜ RightFinding (decode (now (area .entry)) .inputs) (stepOf (decode (now (area .entry)))) r ⌝ }
+{
+    let mut f = [0u8; 39366];
+    found_by_six(area, &mut f)
+}
+
+fn square_by_six(area: &[u8], f: &mut [u8; 39366]) -> [[bool; base::INPUTS]; base::INPUTS]
+    requires { ⌜ Small (decode (now area)) × (decode (now area) .inputs ≤ 6) ⌝ }
+    ensures { λ r. ⌜ r ≡ squareOf (decode (now (area .entry)) .inputs) (stepOf (decode (now (area .entry)))) ⌝ }
+{
+    square_in(area, f)
+}
+
+fn square_six(area: &[u8]) -> [[bool; base::INPUTS]; base::INPUTS]
+    requires { ⌜ Small (decode (now area)) × (decode (now area) .inputs ≤ 6) ⌝ }
+    ensures { λ r. ⌜ r ≡ squareOf (decode (now (area .entry)) .inputs) (stepOf (decode (now (area .entry)))) ⌝ }
+{
+    let mut f = [0u8; 39366];
+    square_by_six(area, &mut f)
+}
+
+fn found_by_nine(area: &[u8], f: &mut [u8; 1594323]) -> Finding
+    requires { ⌜ Small (decode (now area)) × (decode (now area) .inputs ≤ 9) ⌝ }
+    ensures { λ r. ⌜ RightFinding (decode (now (area .entry)) .inputs) (stepOf (decode (now (area .entry)))) r ⌝ }
+{
+    found_in(area, f)
+}
+
+fn found_nine(area: &[u8]) -> Finding
+    requires { ⌜ Small (decode (now area)) × (decode (now area) .inputs ≤ 9) ⌝ }
+    ensures { λ r. ⌜ RightFinding (decode (now (area .entry)) .inputs) (stepOf (decode (now (area .entry)))) r ⌝ }
+{
+    let mut f = [0u8; 1594323];
+    found_by_nine(area, &mut f)
+}
+
+fn square_by_nine(area: &[u8], f: &mut [u8; 1594323]) -> [[bool; base::INPUTS]; base::INPUTS]
+    requires { ⌜ Small (decode (now area)) × (decode (now area) .inputs ≤ 9) ⌝ }
+    ensures { λ r. ⌜ r ≡ squareOf (decode (now (area .entry)) .inputs) (stepOf (decode (now (area .entry)))) ⌝ }
+{
+    square_in(area, f)
 }
 
 fn square_nine(area: &[u8]) -> [[bool; base::INPUTS]; base::INPUTS]
-    requires { ⌜ Small (decode (now area)) ⌝ }
+    requires { ⌜ Small (decode (now area)) × (decode (now area) .inputs ≤ 9) ⌝ }
     ensures { λ r. ⌜ r ≡ squareOf (decode (now (area .entry)) .inputs) (stepOf (decode (now (area .entry)))) ⌝ }
 {
     let mut f = [0u8; 1594323];
-    square_in(area, &mut f)
+    square_by_nine(area, &mut f)
 }
 
 // Judges a lent table: independent of the order, or the first disagreement.
@@ -355,8 +429,12 @@ pub fn square(area: &[u8]) -> [[bool; base::INPUTS]; base::INPUTS]
     if !formed::well_formed(area) {
         return [[false; base::INPUTS]; base::INPUTS];
     }
-    if table::inputs(area) <= 4 {
+    let n = table::inputs(area);
+    if n <= 4 {
         return square_four(area);
+    }
+    if n <= 6 {
+        return square_six(area);
     }
     square_nine(area)
 }

@@ -18,6 +18,6 @@ finding-spec =
     (λ c. rw (← c .before .first-pair .ensures, le-ltb _ _ (c .if1 .taken)))
     (λ c κs. let t = pair-told _ _ _ (c .before .first-pair .ensures) (c .if1 .left) in (c .before .before .before .pre, omega (arith, t .rising, t .last), t .last))
     (λ c κs.
-      let t = pair-told _ _ _ (c .before .before .first-pair .ensures) (c .before .if1 .left) in
-      (c .before .before .before .before .pre, omega (arith, t .rising, t .last), t .last, rw (c .first-difference .ensures) (t .counted)))
+    let t = pair-told _ _ _ (c .before .before .first-pair .ensures) (c .before .if1 .left) in
+    (c .before .before .before .before .pre, omega (arith, t .rising, t .last), t .last, rw (c .first-difference .ensures) (t .counted)))
     (λ c. rw (← c .before .before .before .first-pair .ensures, lt-ltb _ _ (c .before .before .if1 .left), ← c .before .first-difference .ensures) (ap Dependent (c .witness-at .ensures))))

@@ -13,5 +13,5 @@ found-in-spec =
     (λ c κs. omega (arith, c .before .before .before .before .before .before .before .before .pre .0 .inputs))
     (λ c. c .before .before .before .before .before .fill .kept .1 .0)
     (λ c.
-      let s = c .before .before .before .before .before .before .before .before .before in
-      found _ _ _ _ (s .pre .0) (c .before .inputs .ensures) (c .before .before .before .before .before .fill .ensures) (c .finding .ensures)))
+    let s = c .before .before .before .before .before .before .before .before .before in
+    found _ _ _ _ (s .pre .0) (c .before .inputs .ensures) (c .before .before .before .before .before .fill .ensures) (c .finding .ensures)))

@@ -17,5 +17,5 @@ judge-spec =
     (λ c. let i = c .before .before .before in (sym (i .before .well-formed .ensures) ∙ not-false _ (i .if1 .left), c .found-four .ensures))
     (λ c κs. let i = c .before .before .before in (small-of _ (sym (i .before .well-formed .ensures) ∙ not-false _ (i .if1 .left)), omega (arith, c .before .before .inputs .ensures)))
     (λ c. let i = c .before .before .before .before in (sym (i .before .well-formed .ensures) ∙ not-false _ (i .if1 .left), c .found-six .ensures))
-    (λ c κs. let i = c .before .before .before in small-of _ (sym (i .before .well-formed .ensures) ∙ not-false _ (i .if1 .left)))
+    (λ c κs. let i = c .before .before .before in let m = small-of _ (sym (i .before .well-formed .ensures) ∙ not-false _ (i .if1 .left)) in (m, m .inputs))
     (λ c. let i = c .before .before .before .before in (sym (i .before .well-formed .ensures) ∙ not-false _ (i .if1 .left), c .found-nine .ensures)))

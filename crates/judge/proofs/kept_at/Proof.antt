@@ -17,6 +17,6 @@ kept-at-spec =
     (λ c. omega arith)
     (λ c κs. search needs)
     (λ c.
-      let s = c .before .before .before .before .args in
-      (c .wide .ensures, omega (arith, c .wide .ensures, c .before .shared-slice-known2 .given (s .b * 9 + (s .x * 3 + s .o)))))
+    let s = c .before .before .before .before .args in
+    (c .wide .ensures, omega (arith, c .wide .ensures, c .before .shared-slice-known2 .given (s .b * 9 + (s .x * 3 + s .o)))))
     (λ c. (sym (List·getD-eq-default (c .before .before .args .f .now) 0 (omega arith)), omega arith)))

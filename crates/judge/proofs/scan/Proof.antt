@@ -25,14 +25,14 @@ scan-spec =
     (λ c. omega arith)
     (λ c. omega arith)
     (λ c.
-      let l = c .before .before .before in
-      let s = l .before .before .args in
-      found-case (λ (q : ℕ). differsAt (s .f .now) (s .bi) (s .bj) (s .wi) (s .wj) (q / 27) (q % 27)) (differsAt (s .f .now) (s .bi) (s .bj) (s .wi) (s .wj)) (λ q. refl) _ _ _ (c .before .before .loop-test .taken) (l .loop .inv .1) (c .before .first-case .ensures) (c .if1 .taken))
+    let l = c .before .before .before in
+    let s = l .before .before .args in
+    found-case (λ (q : ℕ). differsAt (s .f .now) (s .bi) (s .bj) (s .wi) (s .wj) (q / 27) (q % 27)) (differsAt (s .f .now) (s .bi) (s .bj) (s .wi) (s .wj)) (λ q. refl) _ _ _ (c .before .before .loop-test .taken) (l .loop .inv .1) (c .before .first-case .ensures) (c .if1 .taken))
     (λ c. omega arith)
     (λ c. omega arith)
     (λ c.
-      let l = c .before .before .before in
-      let s = l .before .before .args in
-      (omega arith, next-vector (λ (q : ℕ). differsAt (s .f .now) (s .bi) (s .bj) (s .wi) (s .wj) (q / 27) (q % 27)) (differsAt (s .f .now) (s .bi) (s .bj) (s .wi) (s .wj)) (λ q. refl) _ _ (l .loop .inv .1) (c .before .first-case .ensures) (c .if1 .left)))
+    let l = c .before .before .before in
+    let s = l .before .before .args in
+    (omega arith, next-vector (λ (q : ℕ). differsAt (s .f .now) (s .bi) (s .bj) (s .wi) (s .wj) (q / 27) (q % 27)) (differsAt (s .f .now) (s .bi) (s .bj) (s .wi) (s .wj)) (λ q. refl) _ _ (l .loop .inv .1) (c .before .first-case .ensures) (c .if1 .left)))
     (λ c. omega arith)
     (λ c. let e : c .before .loop .v ≡ c .before .before .before .args .m = omega arith in sym (first-none _ _ (rw e at (c .before .loop .inv .1)))))

@@ -13,5 +13,5 @@ square-in-spec =
     (λ c κs. omega (arith, c .before .before .before .before .before .before .before .before .pre .0 .inputs))
     (λ c. c .before .before .before .before .before .fill .kept .1 .0)
     (λ c.
-      let s = c .before .before .before .before .before .before .before .before .before in
-      squared _ _ _ _ (c .before .inputs .ensures) (c .before .before .before .before .before .fill .ensures) (c .square-at .ensures)))
+    let s = c .before .before .before .before .before .before .before .before .before in
+    squared _ _ _ _ (c .before .inputs .ensures) (c .before .before .before .before .before .fill .ensures) (c .square-at .ensures)))
