@@ -153,10 +153,10 @@ fn first_difference(f: &[u8], n: usize, i: usize, j: usize) -> usize
 }
 
 fn pair_differs(f: &[u8], n: usize, i: usize, j: usize) -> bool
-    requires { ⌜ n ≤ 9 ⌝ }
+    requires { ⌜ (n ≤ 9) × (i < 9) ⌝ }
     ensures { λ r. ⌜ r ≡ pairDiffers (now (f .entry)) n i j ⌝ }
 {
-    if j <= i {
+    if j < i + 1 {
         return false;
     }
     if n <= j {
@@ -263,14 +263,14 @@ fn finding(f: &[u8], n: usize) -> Finding
 }
 
 fn yes_at(f: &[u8], n: usize, i: usize, j: usize) -> bool
-    requires { ⌜ n ≤ 9 ⌝ }
+    requires { ⌜ (n ≤ 9) × (i < 9) × (j < 9) ⌝ }
     ensures { λ r. ⌜ r ≡ yesIn (now (f .entry)) n i j ⌝ }
 {
     !(pair_differs(f, n, i, j) | pair_differs(f, n, j, i))
 }
 
 fn square_row(f: &[u8], n: usize, i: usize) -> [bool; base::INPUTS]
-    requires { ⌜ n ≤ 9 ⌝ }
+    requires { ⌜ (n ≤ 9) × (i < 9) ⌝ }
     ensures { λ r. ⌜ r ≡ listed (yesIn (now (f .entry)) n i) 9 ⌝ }
 {
     let mut s = [false; base::INPUTS];

@@ -25,7 +25,7 @@ first-pair-spec =
     μ-loop
     (λ c. (omega arith, below-none _))
     (λ c. search needs)
-    (λ c κs. omega arith)
+    (λ c κs. (omega arith, omega arith))
     (λ c. sym (first-found _ _ _ (omega arith) (c .before .before .before .loop .inv .1) (sym (c .before .pair-differs .ensures) ∙ c .if1 .taken)))
     (λ c. omega arith)
     (λ c. omega arith)

@@ -10,9 +10,12 @@ unfolding pairDiffers
 pair-differs-spec =
     tie.close
     (tie.spec
-    (λ c. rw (le-ltb _ _ (c .if1 .taken)))
-    (λ c. rw (lt-ltb _ _ (c .before .if1 .left), le-ltb _ _ (c .if2 .taken)))
+    (λ c. omega arith)
+    (λ c. let a = c .before .before .args in rw (le-ltb (a .i) (a .j) (omega arith)))
+    (λ c. let a = c .before .before .before .args in rw (lt-ltb (a .i) (a .j) (omega arith), le-ltb _ _ (c .if2 .taken)))
     (λ c κs. (omega arith, omega arith, omega arith))
     (λ c κs. omega arith)
-    (λ c. omega (arith, vectors-low _ _ (c .before .before .before .before .before .pre) (c .power .ensures)))
-    (λ c. rw (lt-ltb _ _ (c .before .before .before .if1 .left), lt-ltb _ _ (c .before .before .if2 .left), ← c .before .first-difference .ensures, ← c .power .ensures)))
+    (λ c. omega (arith, vectors-low _ _ (c .before .before .before .before .before .pre .0) (c .power .ensures)))
+    (λ c.
+    let a = c .before .before .before .before .before .args in
+    rw (lt-ltb (a .i) (a .j) (omega arith), lt-ltb _ _ (c .before .before .if2 .left), ← c .before .first-difference .ensures, ← c .power .ensures)))

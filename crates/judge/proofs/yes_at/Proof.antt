@@ -5,4 +5,4 @@ use Rattle.judge.proofs.yes_at.Tie as tie
 
 pub yes-at-spec : {M : Type 1} → statement M
 unfolding yesIn
-yes-at-spec = tie.close (tie.spec (λ c κs. omega arith) (λ c κs. omega arith) (λ c. rw (c .pair-differs2 .ensures, c .before .pair-differs .ensures)))
+yes-at-spec = tie.close (tie.spec (λ c κs. (omega arith, omega arith)) (λ c κs. (omega arith, omega arith)) (λ c. rw (c .pair-differs2 .ensures, c .before .pair-differs .ensures)))
