@@ -28,11 +28,11 @@ use Rattle.judge.specs.Search.{differsIn, firstIn, pairDiffers, pairs, f
 use Rattle.judge.specs.Judge.{Witnesses, RightFinding, disagree, pairYes, squareOf}
 use Rattle.judge.proofs.Ranks.{output-is, other-is, differs-is}
 
-same-of : (x y : Ternary) → x ≡ y → sameValue x y ≡ true
+pub same-of : (x y : Ternary) → x ≡ y → sameValue x y ≡ true
 unfolding sameValue
 same-of x y e = eq-eqb (rankOf x) (rankOf y) (ap rankOf e)
 
-of-same : (x y : Ternary) → sameValue x y ≡ true → x ≡ y
+pub of-same : (x y : Ternary) → sameValue x y ≡ true → x ≡ y
 unfolding sameValue
 of-same x y e = rank-same x y (eqb-true (rankOf x) (rankOf y) e)
 
