@@ -1,0 +1,6 @@
+pub mod Ranks
+pub mod Findings
+pub mod Once
+pub mod Squares
+pub mod Numbers
+pub mod Lending
