@@ -26,7 +26,8 @@ use Rattle.grammar.proofs.Post.{Gives, after, past, given, checked}
 use Rattle.grammar.proofs.Gives.{port-list-few}
 use Rattle.ports.specs.declared.Head.{Head}
 use Rattle.ports.specs.Heads.{head, headWith}
-use Rattle.reading.specs.Told.{drawn, withRows, Begun}
+use Rattle.reading.specs.Told.{out, drawn, withRows, Begun}
+use Rattle.reading.specs.declared.Reading.{Reading}
 use Rattle.reading.proofs.Drawing.{head-begun}
 
 -- ---- the grammar's lines, where those before them are read
@@ -126,3 +127,6 @@ ends-there t i h = rw (drop-of-length-le t h)
 
 pub copied : (d a : List ℕ) → length a ≡ length d → take (length d) d ++ drop (length d) a ≡ d
 copied d a e = rw (take-length, drop-of-length-le a {i = length d} (omega arith), append-nil)
+
+pub out-same : {r : Reading} {a b : List ℕ} → a ≡ b → out r a ≡ out r b
+out-same e = rw e

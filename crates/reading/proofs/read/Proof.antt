@@ -1,83 +1,33 @@
+use Rattle.reading.proofs.Whole.{begins-there, ends-there, copied, out-same}
+use Rattle.reading.proofs.Binds.{drawn-got, drawn-refused}
+use Rattle.reading.specs.Told.{readInto}
+use Rattle.grammar.specs.Reading.{read, primitive}
+use Rattle.table.specs.Area.{encode}
+use lib.ListN.{drop}
+use borrow.Author.Tests.{eq-eqb, ne-eqb, le-leb, lt-leb}
+use native.Mathlib.Omega.{arith}
+use denote.Ref.{now}
+use mathlib.Core.Path.{sym, _∙_}
 use borrow.Author.Needs.{needs}
 use Rattle.reading.proofs.read.Statement.{statement}
 use Rattle.reading.proofs.read.Tie as tie
-use Rattle.reading.proofs.read.Reads as reads
-use Rattle.reading.proofs.read.Lts as lts
-use Rattle.bytes.proofs.copy.Reads as copy-reads
-use Rattle.reading.proofs.read_primitive.Reads as read-primitive-reads
-use Rattle.text.proofs.skip_from.Reads as skip-from-reads
-
--- src/lib.rt:155:9
-returns : tie.Need-returns
-returns c = ?
-
--- src/lib.rt:158:9
-returns-2 : tie.Need-returns-2
-returns-2 c = ?
-
--- src/lib.rt:161:9
-returns-3 : tie.Need-returns-3
-returns-3 c = ?
-
--- src/lib.rt:163:9
-skip-from-requires : tie.Need-skip-from-requires
-skip-from-requires c κs = search needs
-
--- src/lib.rt:165:9
-returns-4 : tie.Need-returns-4
-returns-4 c = ?
-
--- src/lib.rt:168:37
-slice-aggregate-read-primitive : tie.Need-slice-aggregate-read-primitive
-slice-aggregate-read-primitive c = search needs
-
--- src/lib.rt:168:9
-read-primitive-requires : tie.Need-read-primitive-requires
-read-primitive-requires c κs = search needs
-
--- src/lib.rt:170:21
-enum-known-s : tie.Need-enum-known-s
-enum-known-s c = search needs
-
--- src/lib.rt:171:25
-slice-aggregate-copy : tie.Need-slice-aggregate-copy
-slice-aggregate-copy c = search needs
-
--- src/lib.rt:171:13
-copy-requires : tie.Need-copy-requires
-copy-requires c κs = search needs
-
--- src/lib.rt:174:23
-enum-known-s-2 : tie.Need-enum-known-s-2
-enum-known-s-2 c = search needs
-
--- src/lib.rt:151:1
-same-length : tie.Need-same-length
-same-length c = search needs
-
--- src/lib.rt:151:1
-returns-5 : tie.Need-returns-5
-returns-5 c = ?
-
--- src/lib.rt:151:1
-returns-6 : tie.Need-returns-6
-returns-6 c = ?
 
 pub read-spec : {M : Type 1} → statement M
+unfolding readInto read
 read-spec =
     tie.close
     (tie.spec
-    returns
-    returns-2
-    returns-3
-    skip-from-requires
-    returns-4
-    slice-aggregate-read-primitive
-    read-primitive-requires
-    enum-known-s
-    slice-aggregate-copy
-    copy-requires
-    enum-known-s-2
-    same-length
-    returns-5
-    returns-6)
+    (λ c. rw (ne-eqb _ _ (c .if1 .taken)))
+    (λ c. rw (eq-eqb _ _ (c .before .if1 .left), lt-leb _ _ (c .if2 .taken)))
+    (λ c. rw (eq-eqb _ _ (c .before .before .if1 .left), le-leb _ _ (c .before .if2 .left), lt-leb _ _ (c .if3 .taken)))
+    (λ c κs. search needs)
+    (λ c. rw (eq-eqb _ _ (c .before .before .before .before .if1 .left), le-leb _ _ (c .before .before .before .if2 .left), le-leb _ _ (c .before .before .if3 .left), c .before .skip-from .ensures, ends-there _ _ (c .if4 .taken)))
+    (λ c. search needs)
+    (λ c κs. search needs)
+    (λ c. search needs)
+    (λ c. search needs)
+    (λ c κs. search needs)
+    (λ c. search needs)
+    (λ c. search needs)
+    (λ c. let q = drawn-got encode (primitive (c .before .before .before .before .before .before .before .before .before .before .before .before .skip-from .result) (drop (c .before .before .before .before .before .before .before .before .before .before .before .before .skip-from .result) (now (c .before .before .before .before .before .before .before .before .before .before .before .before .before .before .before .before .before .before .args .text)))) _ _ _ (rw (c .before .before .before .before .before .before .s .given .1) at (c .before .before .before .before .before .before .before .before .before .read-primitive .ensures)) in rw (eq-eqb _ _ (c .before .before .before .before .before .before .before .before .before .before .before .before .before .before .before .if1 .left), le-leb _ _ (c .before .before .before .before .before .before .before .before .before .before .before .before .before .before .if2 .left), le-leb _ _ (c .before .before .before .before .before .before .before .before .before .before .before .before .before .if3 .left), c .before .before .before .before .before .before .before .before .before .before .before .before .skip-from .ensures, begins-there _ _ (c .before .before .before .before .before .before .before .before .before .before .before .if4 .left), q .1) (out-same (q .2 ∙ sym (c .before .before .copy .ensures .1 ∙ copied _ _ (omega (arith, c .before .before .before .before .before .before .before .before .before .before .before .before .before .before .before .if1 .left))))))
+    (λ c. rw (eq-eqb _ _ (c .before .before .before .before .before .before .before .before .before .before .if1 .left), le-leb _ _ (c .before .before .before .before .before .before .before .before .before .if2 .left), le-leb _ _ (c .before .before .before .before .before .before .before .before .if3 .left), c .before .before .before .before .before .before .before .skip-from .ensures, begins-there _ _ (c .before .before .before .before .before .before .if4 .left), drawn-refused encode (primitive (c .before .before .before .before .before .before .before .skip-from .result) (drop (c .before .before .before .before .before .before .before .skip-from .result) (now (c .before .before .before .before .before .before .before .before .before .before .before .before .before .args .text)))) _ _ (rw (c .before .s2 .given .1) at (c .before .before .before .before .read-primitive .ensures)))))
