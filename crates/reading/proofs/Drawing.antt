@@ -1,0 +1,181 @@
+-- Rows drawn into an area, one after the other. Assumes nothing.
+use mathlib.Core.Path.{_≡_, refl, sym, ap, _∙_}
+use mathlib.Core.List.{List, [], _∷_, _++_}
+use mathlib.Core.Bool.{Bool, true, false, not, _&&_}
+use mathlib.Core.Logic.{⊎-elim}
+use Prim.Native.Nat.{ℕ, zero, suc, _+_, _-_, _≤_, _<_}
+use native.Mathlib.Nat.{eq-or-lt-of-le}
+use native.Mathlib.Omega.{arith}
+use lib.ListN.{length, getD, drop, length-append, List·getD-append}
+use lib.Seq.{getD-at}
+use Rattle.base.specs.Limits.{inputLimit, rowLimit, nameLimit}
+use Rattle.base.specs.Search.{every}
+use Rattle.base.proofs.Search.{every-same}
+use Rattle.value.specs.declared.Ternary.{Ternary}
+use Rattle.table.specs.Places.{inputsAt, areaSize}
+use Rattle.table.specs.Table.{Row, Table, Bounded, Shaped, rowAt, noRow, withRow}
+use Rattle.table.specs.Area.{encode, decode}
+use Rattle.table.proofs.Encoding.{decode-encode, decode-inputs}
+use Rattle.formed.specs.Tests.{contradict, rowAgrees}
+use Rattle.writing.specs.Written.{headOf, rowWritten}
+use Rattle.writing.proofs.Rowlaws.{row-written}
+use Rattle.symbol.specs.Match.{isEdge}
+use Rattle.text.specs.Bytes.{bytes}
+use Rattle.text.specs.Places.{meant}
+use Rattle.text.specs.declared.Step.{Step}
+use Rattle.text.specs.declared.Step.the-variants.{At, Refused}
+use Rattle.grammar.proofs.Post.{Gives, after, past, given}
+use Rattle.text.specs.Reader.{Result, got, refused, bind, _>>=_, _>>_, give, check, if, skip, ahead, keyword}
+use Rattle.grammar.specs.Rows.{columns, row, rows, agrees, beginsRow, noRows}
+use Rattle.fields.specs.Pieces.{begins}
+use Rattle.fields.proofs.Piecelaws.{ahead-is}
+use Rattle.reading.specs.Told.{drawn, withRows, Begun}
+
+-- ---- rows, one at a time
+
+module _ (sequential : Bool) (n : ℕ) (before : List Row) (k : ℕ) (s : List ℕ) (p : ℕ) (r : List ℕ) (e : skip k s ≡ got tt p r) where
+  module _ (m : ℕ) where
+    pub rows-row : begins beginsRow r ≡ true → rows (suc m) sequential n before k s ≡ bind (row sequential n p r) (λ x. check (agrees n before x) 9 p >> rows m sequential n (before ++ (x ∷ [])))
+    unfolding rows _>>=_ if
+    rows-row b = rw (e, ahead-is beginsRow p r, b)
+
+    pub rows-end : begins beginsRow r ≡ false → rows (suc m) sequential n before k s ≡ bind (keyword (bytes "endtable") p r) (λ w. check (not (noRows before)) 3 p >> give before)
+    unfolding rows _>>=_ if
+    rows-end b = rw (e, ahead-is beginsRow p r, b)
+
+    pub rows-on : begins beginsRow r ≡ true → (x : Row) (j : ℕ) (z : List ℕ) → row sequential n p r ≡ got x j z → agrees n before x ≡ true
+        → rows (suc m) sequential n before k s ≡ rows m sequential n (before ++ (x ∷ [])) j z
+    unfolding _>>=_ check
+    rows-on b x j z f a = rows-row b ∙ rw (f, a)
+
+  pub rows-full : begins beginsRow r ≡ true → rows 0 sequential n before k s ≡ refused 6 p
+  unfolding rows _>>=_ check
+  rows-full b = rw (e, ahead-is beginsRow p r, b)
+
+  pub rows-last : begins beginsRow r ≡ false → rows 0 sequential n before k s ≡ bind (keyword (bytes "endtable") p r) (λ w. give before)
+  unfolding rows _>>=_ check
+  rows-last b = rw (e, ahead-is beginsRow p r, b)
+
+-- ---- the area while rows are read
+
+pub record Going (t : List ℕ) (at : ℕ) (h : Table) (sequential : Bool) (n : ℕ) (a : List ℕ) (i k : ℕ) : Type 0 where
+  pub before : List Row
+  pub count : length before ≡ k
+  pub few : k ≤ rowLimit
+  pub inputs : h .inputs ≡ n
+  pub same : a ≡ encode (withRows h before)
+  pub shaped : Shaped (withRows h before)
+  pub said : rows rowLimit sequential n [] at (drop at t) ≡ rows (rowLimit - k) sequential n before i (drop i t)
+
+pub going-none : (t : List ℕ) (at : ℕ) (sequential : Bool) (n : ℕ) (a : List ℕ) → Begun a n → Going t at (decode a) sequential n a at 0
+going-none t at sequential n a b = record {
+  before = [];
+  count = refl;
+  few = omega arith;
+  inputs = b .inputs;
+  same = rw (b .none) at (b .same);
+  shaped = rw (b .none) at (b .shaped);
+  said = refl;
+}
+
+-- one row more
+module _ (h : Table) (before : List Row) (x : Row) (s : Shaped (withRows h before)) (few : length before < rowLimit) (long : length (x .symbols) ≡ h .inputs) where
+  more-rows : List Row
+  more-rows = before ++ (x ∷ [])
+
+  row-same : (i : ℕ) → i < length before → getD (before ++ (x ∷ [])) i noRow ≡ getD before i noRow
+  row-same i g = List·getD-append before (x ∷ []) noRow i g
+
+  row-new : getD (before ++ (x ∷ [])) (length before) noRow ≡ x
+  row-new = getD-at before x [] noRow (length before) refl
+
+  wide : (i : ℕ) → i < length (before ++ (x ∷ [])) → length (getD (before ++ (x ∷ [])) i noRow .symbols) ≡ h .inputs
+  wide i g =
+      ⊎-elim
+      (λ (q : i ≡ length before). rw (q, row-new) long)
+      (λ (l : i < length before). rw (row-same i l) (s .columns i l))
+      (eq-or-lt-of-le {n = i} {m = length before} (omega (arith, length-append before (x ∷ []))))
+
+  pub shaped-more : Shaped (withRows h (before ++ (x ∷ [])))
+  shaped-more = record {
+    bounded = record { name = s .bounded .name; inputs = s .bounded .inputs; rows = omega (arith, length-append before (x ∷ [])) };
+    columns = wide;
+  }
+
+  pub written-more : rowWritten (encode (withRows h before)) x ≡ encode (withRows h (before ++ (x ∷ [])))
+  unfolding withRow
+  written-more = row-written (withRows h before) x s few
+
+  -- the test of the area is the grammar's
+  pub agrees-is : rowAgrees (decode (encode (withRows h (before ++ (x ∷ []))))) (length before) ≡ agrees (h .inputs) before x
+  unfolding rowAgrees agrees
+  agrees-is =
+      rw (decode-encode (withRows h (before ++ (x ∷ []))) shaped-more)
+      (every-same (λ (i : ℕ). not (contradict (h .inputs) (getD (before ++ (x ∷ [])) i noRow) (getD (before ++ (x ∷ [])) (length before) noRow))) (λ (i : ℕ). not (contradict (h .inputs) (getD before i noRow) x)) (length before)
+      (λ i g. rw (row-same i g, row-new)))
+
+module _ {t : List ℕ} {at : ℕ} {h : Table} {sequential : Bool} {n : ℕ} {a : List ℕ} {i k : ℕ} (g : Going t at h sequential n a i k) (less : k < rowLimit)
+    (x : Row) (long : length (x .symbols) ≡ n) (b : List ℕ) (w : rowWritten a x ≡ b) where
+  few′ : length (g .before) < rowLimit
+  few′ = omega (arith, g .count)
+
+  long′ : length (x .symbols) ≡ h .inputs
+  long′ = long ∙ sym (g .inputs)
+
+  pub going-same : b ≡ encode (withRows h (g .before ++ (x ∷ [])))
+  going-same = sym w ∙ ap (λ (l : List ℕ). rowWritten l x) (g .same) ∙ written-more h (g .before) x (g .shaped) few′ long′
+
+  pub going-agrees : rowAgrees (decode b) k ≡ agrees n (g .before) x
+  going-agrees =
+      rw going-same
+      (ap (λ (m : ℕ). rowAgrees (decode (encode (withRows h (g .before ++ (x ∷ []))))) m) (sym (g .count))
+      ∙ agrees-is h (g .before) x (g .shaped) few′ long′
+      ∙ ap (λ (m : ℕ). agrees m (g .before) x) (g .inputs))
+
+  pub going-more : (j : ℕ) → rows rowLimit sequential n [] at (drop at t) ≡ rows (rowLimit - (k + 1)) sequential n (g .before ++ (x ∷ [])) j (drop j t) → Going t at h sequential n b j (k + 1)
+  going-more j e = record {
+    before = g .before ++ (x ∷ []);
+    count = length-append (g .before) (x ∷ []) ∙ omega (arith, g .count);
+    few = omega arith;
+    inputs = g .inputs;
+    same = going-same;
+    shaped = shaped-more h (g .before) x (g .shaped) few′ long′;
+    said = e;
+  }
+
+pub going-inputs : {t : List ℕ} {at : ℕ} {h : Table} {sequential : Bool} {n : ℕ} {a : List ℕ} {i k : ℕ} → Going t at h sequential n a i k → getD a inputsAt 0 ≡ n
+going-inputs {h = h} {a = a} g = sym (decode-inputs a) ∙ rw (g .same) (rw (decode-encode (withRows h (g .before)) (g .shaped)) (g .inputs))
+
+pub none-of : (l : List Row) (k : ℕ) → length l ≡ k → k ≡ 0 → noRows l ≡ true
+none-of [] k e z = refl
+none-of (r ∷ l) k e z = absurd (omega arith)
+
+pub some-of : (l : List Row) (k : ℕ) → length l ≡ k → (k ≡ 0 → ⊥) → noRows l ≡ false
+some-of [] k e z = absurd (z (sym e))
+some-of (r ∷ l) k e z = refl
+
+-- a table without rows
+pub head-begun : (name : List ℕ) (sequential : Bool) (n : ℕ) (start : Ternary) → length name ≤ nameLimit → n ≤ inputLimit
+    → Begun (encode (headOf name sequential n start)) n
+unfolding headOf
+head-begun name sequential n start l m =
+    let s : Shaped (headOf name sequential n start) = record { bounded = record { name = l; inputs = m; rows = omega arith }; columns = λ i g. absurd (omega arith) } in
+    let e = decode-encode (headOf name sequential n start) s in
+    record { same = rw e refl; shaped = rw e s; none = rw e refl; inputs = rw e refl }
+
+-- the word behind the last row
+pub last-draw : {A : Type 0} (t : List ℕ) (f : ℕ → ℕ → A) (h : Table) (before : List Row) (a : List ℕ) (z : Step) → a ≡ encode (withRows h before)
+    → drawn (λ l. encode (withRows h l)) (bind (meant t f z) (λ w. give before)) ≡ meant t (λ x e. a) z
+last-draw t f h before a (At x e) q = rw q
+last-draw t f h before a (Refused c p) q = refl
+
+-- a row has a symbol for each input
+columns-long : (m : ℕ) (edge : Bool) → Gives (λ l. length l ≡ m) (columns m edge)
+unfolding columns
+columns-long zero edge = past _ (λ u. past _ (λ p. past _ (λ few. past _ (λ v. past _ (λ w. given _ refl)))))
+columns-long (suc m) edge =
+    past _ (λ u. past _ (λ p. past _ (λ few. past _ (λ v. past _ (λ x. after (columns-long m (edge && not (isEdge x))) (λ l e. given _ (ap suc e)))))))
+
+pub row-long : (sequential : Bool) (n : ℕ) → Gives (λ x. length (x .symbols) ≡ n) (row sequential n)
+unfolding row
+row-long sequential n = after (columns-long n sequential) (λ l e. past _ (λ y. past _ (λ o. past _ (λ z. given _ e))))

@@ -1,0 +1,4 @@
+pub mod Binds
+pub mod Columns
+pub mod Drawing
+pub mod Whole

@@ -1,0 +1,132 @@
+-- The whole primitive. Assumes nothing.
+use mathlib.Core.Path.{_≡_, refl, sym, ap, _∙_}
+use mathlib.Core.List.{List, [], _∷_, _++_, append-nil}
+use mathlib.Core.Bool.{Bool, true, false}
+use Prim.Native.Nat.{ℕ, _≤_, _<_}
+use native.Mathlib.Omega.{arith}
+use lib.ListN.{length, take, drop, drop-of-length-le}
+use lib.Seq.{drop-cons, take-length}
+use borrow.Author.Tests.{eq-eqb, le-leb, leb-true}
+use Rattle.base.specs.Limits.{inputLimit, nameLimit, rowLimit}
+use Rattle.value.specs.declared.Ternary.{Ternary}
+use Rattle.table.specs.Places.{areaSize}
+use Rattle.table.specs.Table.{Row, Table, Shaped}
+use Rattle.table.specs.Area.{encode, decode}
+use Rattle.table.proofs.Encoding.{decode-encode}
+use Rattle.writing.specs.Written.{headOf, headFits, headWritten}
+use Rattle.text.specs.Bytes.{bytes}
+use Rattle.text.specs.Reader.{Result, got, refused, Reader, bind, _>>=_, _>>_, give, keyword, Named, name}
+use Rattle.text.specs.Places.{meant}
+use Rattle.text.specs.declared.Step.{Step}
+use Rattle.text.specs.declared.Step.the-variants.{At, Refused}
+use Rattle.grammar.specs.Header.{Ports, Declared, portList, declared}
+use Rattle.grammar.specs.Rows.{rows}
+use Rattle.grammar.specs.Reading.{primitive, end, outcome, orEnd}
+use Rattle.grammar.proofs.Post.{Gives, after, past, given, checked}
+use Rattle.grammar.proofs.Gives.{port-list-few}
+use Rattle.ports.specs.declared.Head.{Head}
+use Rattle.ports.specs.Heads.{head, headWith}
+use Rattle.reading.specs.Told.{out, drawn, withRows, Begun}
+use Rattle.reading.specs.declared.Reading.{Reading}
+use Rattle.reading.proofs.Drawing.{head-begun}
+
+-- ---- the grammar's lines, where those before them are read
+
+head-then : {A : Type 0} (m : ℕ → Bool → Ternary → Reader A) (k : ℕ) (s : List ℕ)
+    → bind (portList k s) (λ h. declared h >>= λ d. m (length (h .inputs)) (d .sequential) (d .start)) ≡ bind (head k s) (λ x. m (x .inputs) (x .sequential) (x .start))
+unfolding head _>>=_
+head-then {A = A} m k s = go (portList k s)
+  where
+    inner : (n : ℕ) (r : Result Declared) → bind r (λ d. m n (d .sequential) (d .start)) ≡ bind (bind r (headWith n)) (λ x. m (x .inputs) (x .sequential) (x .start))
+    inner n (got d j z) = refl
+    inner n (refused c p) = refl
+
+    go : (r : Result Ports)
+        → bind r (λ h. declared h >>= λ d. m (length (h .inputs)) (d .sequential) (d .start))
+        ≡ bind (bind r (λ h. declared h >>= headWith (length (h .inputs)))) (λ x. m (x .inputs) (x .sequential) (x .start))
+    go (got h j z) = inner (length (h .inputs)) (declared h j z)
+    go (refused c p) = refl
+
+opened : (k : ℕ) (s u : List ℕ) (i : ℕ) (z : List ℕ) → keyword (bytes "primitive") k s ≡ got u i z → (w : Named) (j : ℕ) (y : List ℕ) → name i z ≡ got w j y
+    → primitive k s ≡ bind (portList j y) (λ h. declared h >>= λ d. rows rowLimit (d .sequential) (length (h .inputs)) [] >>= λ l. keyword (bytes "endprimitive") >>= λ v. give (record { name = w .spelt; sequential = d .sequential; inputs = length (h .inputs); start = d .start; rows = l }))
+unfolding primitive _>>=_
+opened k s u i z e w j y f = rw (e, f)
+
+unfoldable pub tableOf : Named → Head → List Row → Table
+tableOf w x l = record { name = w .spelt; sequential = x .sequential; inputs = x .inputs; start = x .start; rows = l }
+
+module _ (k : ℕ) (s : List ℕ) where
+  pub primitive-first : (c p : ℕ) → keyword (bytes "primitive") k s ≡ refused c p → primitive k s ≡ refused c p
+  unfolding primitive _>>=_
+  primitive-first c p e = rw e
+
+  module _ (u : List ℕ) (i : ℕ) (z : List ℕ) (e : keyword (bytes "primitive") k s ≡ got u i z) where
+    pub primitive-name : (c p : ℕ) → name i z ≡ refused c p → primitive k s ≡ refused c p
+    unfolding primitive _>>=_
+    primitive-name c p f = rw (e, f)
+
+    module _ (w : Named) (j : ℕ) (y : List ℕ) (f : name i z ≡ got w j y) where
+      primitive-body : primitive k s ≡ bind (head j y) (λ x. rows rowLimit (x .sequential) (x .inputs) [] >>= λ l. keyword (bytes "endprimitive") >>= λ v. give (tableOf w x l))
+      unfolding tableOf
+      primitive-body =
+          opened k s u i z e w j y f
+          ∙ head-then (λ n sequential start. rows rowLimit sequential n [] >>= λ l. keyword (bytes "endprimitive") >>= λ v. give (record { name = w .spelt; sequential = sequential; inputs = n; start = start; rows = l })) j y
+
+      pub primitive-head : (c p : ℕ) → head j y ≡ refused c p → primitive k s ≡ refused c p
+      primitive-head c p g = primitive-body ∙ rw g
+
+      module _ (x : Head) (m : ℕ) (r : List ℕ) (g : head j y ≡ got x m r) where
+        pub primitive-stop : (c p : ℕ) → rows rowLimit (x .sequential) (x .inputs) [] m r ≡ refused c p → primitive k s ≡ refused c p
+        unfolding _>>=_
+        primitive-stop c p h = primitive-body ∙ rw (g, h)
+
+        pub primitive-rows : (l : List Row) (n : ℕ) (q : List ℕ) → rows rowLimit (x .sequential) (x .inputs) [] m r ≡ got l n q
+            → primitive k s ≡ bind (keyword (bytes "endprimitive") n q) (λ v. give (tableOf w x l))
+        unfolding _>>=_
+        primitive-rows l n q h = primitive-body ∙ rw (g, h)
+
+-- ---- the head in the area
+
+pub name-short : Gives (λ (w : Named). length (w .spelt) ≤ nameLimit) name
+unfolding name
+name-short = past _ (λ u. past _ (λ p. past _ (λ w. checked _ _ _ _ (λ t. given _ (leb-true _ _ t)))))
+
+pub head-few : Gives (λ (h : Head). h .inputs ≤ inputLimit) head
+unfolding head
+head-few = after port-list-few (λ h f. past _ (λ d. given _ (f .1)))
+
+module _ (w : Named) (x : Head) (short : length (w .spelt) ≤ nameLimit) (few : x .inputs ≤ inputLimit) (d : List ℕ) where
+  abbrev begun : Table
+  begun = headOf (w .spelt) (x .sequential) (x .inputs) (x .start)
+
+  pub head-drawn : (a : List ℕ) → length a ≡ areaSize → d ≡ headWritten a begun → d ≡ encode begun
+  unfolding headWritten headFits headOf
+  head-drawn a long e = e ∙ rw (eq-eqb (length a) areaSize long, le-leb (length (w .spelt)) nameLimit short, le-leb (x .inputs) inputLimit few)
+
+  pub head-ready : d ≡ encode begun → Begun d (x .inputs)
+  head-ready e = rw e (head-begun (w .spelt) (x .sequential) (x .inputs) (x .start) short few)
+
+  pub table-drawn : d ≡ encode begun → (l : List Row) → encode (withRows (decode d) l) ≡ encode (tableOf w x l)
+  unfolding tableOf headOf
+  table-drawn e l =
+      let s : Shaped begun = record { bounded = record { name = short; inputs = few; rows = omega arith }; columns = λ i g. absurd (omega arith) } in
+      rw (e, decode-encode begun s)
+
+-- ---- the last word, and the answer
+
+pub last-word : {A : Type 0} (t : List ℕ) (f : ℕ → ℕ → A) (b : Table) (d : List ℕ) (z : Step) → encode b ≡ d
+    → drawn encode (bind (meant t f z) (λ v. give b)) ≡ meant t (λ x e. d) z
+last-word t f b d (At x e) q = rw q
+last-word t f b d (Refused c p) q = refl
+
+pub begins-there : (t : List ℕ) (i : ℕ) → i < length t → orEnd (got tt i (drop i t)) ≡ outcome (primitive i (drop i t))
+begins-there t i h = rw (drop-cons t i 0 h)
+
+pub ends-there : (t : List ℕ) (i : ℕ) → length t ≤ i → orEnd (got tt i (drop i t)) ≡ end
+ends-there t i h = rw (drop-of-length-le t h)
+
+pub copied : (d a : List ℕ) → length a ≡ length d → take (length d) d ++ drop (length d) a ≡ d
+copied d a e = rw (take-length, drop-of-length-le a {i = length d} (omega arith), append-nil)
+
+pub out-same : {r : Reading} {a b : List ℕ} → a ≡ b → out r a ≡ out r b
+out-same e = rw e
