@@ -11,7 +11,8 @@ use Rattle.value.specs.Value.{rankOf, valueOf, sameValue, byteOf, readByte}
 use Rattle.value.specs.declared.Ternary.the-variants.{V0, V1, Vx}
 use Rattle.text.specs.Bytes.{bytes}
 use Rattle.text.specs.Words.{isName, nameFits}
-use Rattle.verdict.specs.Vectors.{vectorOf, numberFrom}
+use Rattle.orders.specs.Vectors.{vectorOf}
+use Rattle.verdict.specs.Numbers.{numberFrom}
 use Rattle.verdict.specs.Meaning.{shown, meant}
 use Rattle.verdict.specs.declared.Witness.{Witness}
 use Rattle.verdict.specs.declared.Finding.{Finding}

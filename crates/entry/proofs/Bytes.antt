@@ -13,10 +13,11 @@ use Rattle.base.proofs.Listed.{listed-length, listed-at}
 use Rattle.value.specs.Value.{valueOf, byteOf}
 use Rattle.value.specs.declared.Ternary.{Ternary}
 use Rattle.value.specs.declared.Ternary.the-variants.{V0}
-use Rattle.verdict.specs.Vectors.{at, put, vectorOf}
+use Rattle.orders.specs.Vectors.{at, put, vectorOf}
 use Rattle.verdict.specs.Meaning.{now}
 use Rattle.verdict.specs.declared.Witness.{Witness}
-use Rattle.verdict.proofs.Vectors.{vector-length, length-put, at-same, at-other}
+use Rattle.orders.proofs.Places.{length-put, at-same, at-other}
+use Rattle.orders.proofs.Candidates.{length-vectorOf}
 use Rattle.verdict.proofs.Meaning.{now-length}
 use Rattle.entry.specs.Entry.{digitOf}
 use Rattle.entry.specs.Handed.{thirds}
@@ -62,17 +63,17 @@ vector-at (suc n) c k h = ⊎-elim last (λ l. front l (vector-at n (c / 3) k l)
     last : k ≡ n → getD (vectorOf (suc n) c) k V0 ≡ valueOf (thirds c (suc n - 1 - k) % 3)
     last e =
         let z : suc n - 1 - k ≤ 0 = omega arith in
-        rw (thirds-end c (suc n - 1 - k) z) (getD-at (vectorOf n (c / 3)) (valueOf (c % 3)) [] V0 k (vector-length n (c / 3) ∙ sym e))
+        rw (thirds-end c (suc n - 1 - k) z) (getD-at (vectorOf n (c / 3)) (valueOf (c % 3)) [] V0 k (length-vectorOf n (c / 3) ∙ sym e))
 
     front : k < n → getD (vectorOf n (c / 3)) k V0 ≡ valueOf (thirds (c / 3) (n - 1 - k) % 3) → getD (vectorOf (suc n) c) k V0 ≡ valueOf (thirds c (suc n - 1 - k) % 3)
     front l below =
         let z : 0 < suc n - 1 - k = omega arith in
         let y : suc n - 1 - k - 1 ≡ n - 1 - k = omega arith in
         rw (thirds-step c (suc n - 1 - k) z, y)
-        (List·getD-append (vectorOf n (c / 3)) (valueOf (c % 3) ∷ []) V0 k (omega (arith, vector-length n (c / 3))) ∙ below)
+        (List·getD-append (vectorOf n (c / 3)) (valueOf (c % 3) ∷ []) V0 k (omega (arith, length-vectorOf n (c / 3))) ∙ below)
 
 pub vector-past : (n c k : ℕ) → n ≤ k → V0 ≡ getD (vectorOf n c) k V0
-vector-past n c k h = sym (List·getD-eq-default (vectorOf n c) V0 (omega (arith, vector-length n c)))
+vector-past n c k h = sym (List·getD-eq-default (vectorOf n c) V0 (omega (arith, length-vectorOf n c)))
 
 pub now-past : (n : ℕ) (w : Witness) (k : ℕ) → n ≤ k → V0 ≡ getD (now n w) k V0
 now-past n w k h = sym (List·getD-eq-default (now n w) V0 (omega (arith, now-length n w)))
@@ -80,7 +81,7 @@ now-past n w k h = sym (List·getD-eq-default (now n w) V0 (omega (arith, now-le
 -- place k is that of input k + 1
 module _ (n : ℕ) (w : Witness) (k : ℕ) (h : k < n) where
   long : length (put (vectorOf n (w .previous)) (w .first) (w .«first_now»)) ≡ n
-  long = length-put (vectorOf n (w .previous)) (w .first) (w .«first_now») ∙ vector-length n (w .previous)
+  long = length-put (vectorOf n (w .previous)) (w .first) (w .«first_now») ∙ length-vectorOf n (w .previous)
 
   one-more : k + 1 ≡ suc k
   one-more = omega arith
@@ -98,7 +99,7 @@ module _ (n : ℕ) (w : Witness) (k : ℕ) (h : k < n) where
       sym
       (at-other (put (vectorOf n (w .previous)) (w .first) (w .«first_now»)) (w .second) (suc k) (w .«second_now») (λ z. a (omega arith))
       ∙ ap (at (put (vectorOf n (w .previous)) (w .first) (w .«first_now»))) (sym q)
-      ∙ at-same (vectorOf n (w .previous)) (w .first) (w .«first_now») (omega arith) (omega (arith, vector-length n (w .previous))))
+      ∙ at-same (vectorOf n (w .previous)) (w .first) (w .«first_now») (omega arith) (omega (arith, length-vectorOf n (w .previous))))
 
   pub now-at-other : (k + 1 ≡ w .second → ⊥) → (k + 1 ≡ w .first → ⊥) → getD (vectorOf n (w .previous)) k V0 ≡ getD (now n w) k V0
   now-at-other a b =
@@ -115,10 +116,10 @@ input-is n c (suc j) r h e =
 -- ---- the bytes of vectors
 
 pub vector-byte-past : (n c k : ℕ) → n ≤ k → 0 ≡ getD (map byteOf (vectorOf n c)) k 0
-vector-byte-past n c k h = sym (map-past byteOf (vectorOf n c) k (omega (arith, vector-length n c)))
+vector-byte-past n c k h = sym (map-past byteOf (vectorOf n c) k (omega (arith, length-vectorOf n c)))
 
 pub vector-byte-at : (n c k : ℕ) (v : Ternary) (r : ℕ) → k < n → v ≡ getD (vectorOf n c) k V0 → r ≡ byteOf v → r ≡ getD (map byteOf (vectorOf n c)) k 0
-vector-byte-at n c k v r h e g = g ∙ ap byteOf e ∙ sym (map-at byteOf (vectorOf n c) k V0 (omega (arith, vector-length n c)))
+vector-byte-at n c k v r h e g = g ∙ ap byteOf e ∙ sym (map-at byteOf (vectorOf n c) k V0 (omega (arith, length-vectorOf n c)))
 
 pub now-byte-past : (n : ℕ) (w : Witness) (k : ℕ) → n ≤ k → 0 ≡ getD (map byteOf (now n w)) k 0
 now-byte-past n w k h = sym (map-past byteOf (now n w) k (omega (arith, now-length n w)))

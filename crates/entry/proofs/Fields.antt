@@ -13,7 +13,7 @@ use Rattle.base.proofs.Listed.{listed-length}
 use Rattle.verdict.specs.declared.Witness.{Witness}
 use Rattle.verdict.specs.declared.Finding.{Finding}
 use Rattle.verdict.specs.declared.Finding.the-variants.{Independent, Dependent}
-use Rattle.verdict.proofs.Vectors.{vector-length}
+use Rattle.orders.proofs.Candidates.{length-vectorOf}
 use Rattle.verdict.proofs.Meaning.{now-length}
 use Rattle.value.specs.Value.{byteOf}
 use Rattle.verdict.specs.Meaning.{before, now}
@@ -50,7 +50,7 @@ module _ (n : ℕ) (w : Witness) where
   order-long f = sym (length-map (listed f n) digitOf ∙ listed-length f n)
 
   pub length-1 : (m : ℕ) → m ≡ 1 → n ≡ length (getD (witnessFields (drafted n w)) m [])
-  length-1 m e = rw e (sym (length-map (before n w) byteOf ∙ vector-length n (w .previous)))
+  length-1 m e = rw e (sym (length-map (before n w) byteOf ∙ length-vectorOf n (w .previous)))
 
   pub length-2 : (m : ℕ) → m ≡ 2 → n ≡ length (getD (witnessFields (drafted n w)) m [])
   length-2 m e = rw e (sym (length-map (now n w) byteOf ∙ now-length n w))
@@ -149,7 +149,7 @@ witness-length n w a b c d =
 
 pub draft-length : (n : ℕ) (w : Witness) → length (join space (witnessFields (drafted n w))) ≡ 4 * n + 12
 draft-length n w =
-    witness-length n (drafted n w) (vector-length n (w .previous)) (now-length n w)
+    witness-length n (drafted n w) (length-vectorOf n (w .previous)) (now-length n w)
     (listed-length (orderAt (w .first) (w .second) (w .first) (w .second)) n)
     (listed-length (orderAt (w .first) (w .second) (w .second) (w .first)) n)
 

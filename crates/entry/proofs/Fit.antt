@@ -14,12 +14,12 @@ use Rattle.base.proofs.Bools.{both, and}
 use Rattle.value.specs.Value.{rankOf, valueOf, sameValue}
 use Rattle.value.specs.declared.Ternary.{Ternary}
 use Rattle.text.specs.Words.{nameFits, isName}
-use Rattle.verdict.specs.Vectors.{at}
+use Rattle.orders.specs.Vectors.{at}
 use Rattle.verdict.specs.Meaning.{before, Sound, SoundFinding}
 use Rattle.verdict.specs.declared.Witness.{Witness}
 use Rattle.verdict.specs.declared.Finding.{Finding}
 use Rattle.verdict.specs.declared.Finding.the-variants.{Independent, Dependent}
-use Rattle.verdict.proofs.Vectors.{value-rank}
+use Rattle.orders.proofs.Candidates.{value-rank}
 use Rattle.entry.specs.Handed.{Handed, thirds, within, witnessFits, findingFits, fitsLayout}
 
 -- ---- values

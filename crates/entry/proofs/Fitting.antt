@@ -10,7 +10,7 @@ use Rattle.verdict.specs.Verdict as words
 use Rattle.verdict.specs.Meaning.{meant, Disagrees, Fits, fits-independent, fits-dependent, SoundFinding}
 use Rattle.verdict.specs.declared.Finding.{Finding}
 use Rattle.verdict.proofs.Meaning.{sound-fits, fits-meant, meant-once}
-use Rattle.verdict.specs.Vectors.{others, pairOrder}
+use Rattle.orders.specs.Pairs.{others, pairOrder}
 use Rattle.base.proofs.Listed.{listed-length}
 use Rattle.files.specs.Files.{LF}
 use Rattle.files.specs.Parts.{join}

@@ -13,7 +13,7 @@ use lib.Seq.{getD-append-add}
 use Rattle.base.specs.Listed.{listed}
 use Rattle.base.proofs.Listed.{listed-is}
 use Rattle.base.proofs.Bools.{lt-or-ge}
-use Rattle.verdict.specs.Vectors.{rise, without, others, pairOrder}
+use Rattle.orders.specs.Pairs.{rise, without, others, pairOrder}
 use Rattle.verdict.specs.Verdict as words
 use Rattle.verdict.specs.Meaning.{shown, meant, Sound, SoundFinding}
 use Rattle.verdict.specs.declared.Witness.{Witness}

@@ -6,7 +6,7 @@ use lib.Dec.{eqb, leb, ltb}
 use Rattle.base.specs.Limits.{inputLimit, rowLimit}
 use Rattle.value.specs.Value.{sameValue}
 use Rattle.text.specs.Words.{nameFits}
-use Rattle.verdict.specs.Vectors.{at}
+use Rattle.orders.specs.Vectors.{at}
 use Rattle.verdict.specs.Verdict as words
 use Rattle.verdict.specs.Meaning.{before, meant}
 use Rattle.verdict.specs.declared.Witness.{Witness}

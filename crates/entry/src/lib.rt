@@ -10,7 +10,7 @@ ghost use lib.ListN.{length, getD};
 ghost use Rattle.base.specs.Listed.{listed};
 ghost use Rattle.value.specs.declared.Ternary.the-variants.{V0};
 ghost use Rattle.value.specs.Value.{byteOf};
-ghost use Rattle.verdict.specs.Vectors.{at, vectorOf};
+ghost use Rattle.orders.specs.Vectors.{at, vectorOf};
 ghost use Rattle.verdict.specs.Meaning.{now as current};
 ghost use Rattle.files.specs.Files.{LF};
 ghost use Rattle.entry.specs.Entry.{digitOf, decimal, witnessFields, findingFields, fields, trailer, entry};

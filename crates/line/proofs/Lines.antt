@@ -16,8 +16,9 @@ use Rattle.base.proofs.Search.{every-fails, every-more}
 use Rattle.base.proofs.Bools.{both, and, clash}
 use Rattle.value.specs.Value.{rankOf}
 use Rattle.value.specs.declared.Ternary.{Ternary}
-use Rattle.verdict.specs.Vectors.{numberFrom}
-use Rattle.verdict.proofs.Vectors.{number-snoc, number-below, rank-low}
+use Rattle.verdict.specs.Numbers.{numberFrom}
+use Rattle.orders.proofs.Candidates.{rank-low}
+use Rattle.verdict.proofs.Numbers.{number-snoc, number-below}
 use Rattle.files.specs.Files.{LF}
 use Rattle.files.proofs.Parts.{part-short}
 use Rattle.entry.specs.Entry.{space, entry}

@@ -17,13 +17,16 @@ use Rattle.value.specs.Value.{byteOf, readByte}
 use Rattle.value.specs.declared.Ternary.{Ternary}
 use Rattle.value.specs.declared.Ternary.the-variants.{V0, V1, Vx}
 use Rattle.text.specs.Words.{nameFits}
-use Rattle.verdict.specs.Vectors.{at, vectorOf, numberFrom, pairOrder}
+use Rattle.orders.specs.Vectors.{at, vectorOf}
+use Rattle.orders.specs.Pairs.{pairOrder}
+use Rattle.verdict.specs.Numbers.{numberFrom}
 use Rattle.verdict.specs.Verdict as words
 use Rattle.verdict.specs.Meaning.{before, now, shown, meant, Sound, SoundFinding}
 use Rattle.verdict.specs.declared.Witness.{Witness}
 use Rattle.verdict.specs.declared.Finding.{Finding}
 use Rattle.verdict.specs.declared.Finding.the-variants.{Independent, Dependent}
-use Rattle.verdict.proofs.Vectors.{vector-length, number-vector}
+use Rattle.orders.proofs.Candidates.{length-vectorOf}
+use Rattle.verdict.proofs.Numbers.{number-vector}
 use Rattle.verdict.proofs.Meaning.{now-length, now-first, now-second}
 use Rattle.files.specs.Parts.{join, partAt}
 use Rattle.files.proofs.Parts.{part-join}
@@ -122,7 +125,7 @@ module _ (s : ℕ) (h : Handed) (p : Parts h) (w : Witness) (e : h .finding ≡ 
   unfolding n shown
   previous-back =
       ap (λ (f : List ℕ). numberFrom 0 (map valueIn (take 9 f))) (told-field 1 (omega arith))
-      ∙ ap (λ (f : List ℕ). numberFrom 0 (map valueIn f)) (take-all 9 (map byteOf (before n w)) (omega (arith, length-map (before n w) byteOf, vector-length n (w .previous), p .few-inputs)))
+      ∙ ap (λ (f : List ℕ). numberFrom 0 (map valueIn f)) (take-all 9 (map byteOf (before n w)) (omega (arith, length-map (before n w) byteOf, length-vectorOf n (w .previous), p .few-inputs)))
       ∙ ap (numberFrom 0) (values-bytes (before n w))
       ∙ number-vector n (w .previous) (sound .small)
 

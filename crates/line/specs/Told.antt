@@ -12,7 +12,7 @@ use Rattle.value.specs.declared.Ternary.{Ternary}
 use Rattle.value.specs.declared.Ternary.the-variants.{V0}
 use Rattle.value.specs.declared.Byte.{Byte}
 use Rattle.value.specs.declared.Byte.the-variants.{Value, Other}
-use Rattle.verdict.specs.Vectors.{numberFrom}
+use Rattle.verdict.specs.Numbers.{numberFrom}
 use Rattle.verdict.specs.declared.Witness.{Witness}
 use Rattle.verdict.specs.declared.Finding.{Finding}
 use Rattle.verdict.specs.declared.Finding.the-variants.{Independent, Dependent}

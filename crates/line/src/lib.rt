@@ -7,7 +7,7 @@ ghost use mathlib.Core.Path.{_≡_};
 ghost use mathlib.Core.List.{map};
 ghost use Prim.Native.Nat.{_-_};
 ghost use lib.ListN.{length, getD, take};
-ghost use Rattle.verdict.specs.Vectors.{numberFrom};
+ghost use Rattle.verdict.specs.Numbers.{numberFrom};
 ghost use Rattle.files.specs.Parts.{partAt};
 ghost use Rattle.entry.specs.Entry.{space};
 ghost use Rattle.line.specs.Told.{valueIn, numberIn, witnessIn, toldBy, isEntry};

@@ -87,3 +87,54 @@ pub fn entry_before(book: &[u8], at: usize) -> Fetched
     }
     Fetched::Refused(13, s)
 }
+
+// Entry k of the book that ends at place `at`, counted from 1.
+fn fetch_in(book: &[u8], at: usize, k: usize) -> Fetched
+    ensures { λ r. ⌜ r ≡ fetched (now (book .entry)) at k ⌝ }
+{
+    book::fetch(book, at, k)
+}
+
+// ---- the reader: a slice and a place, handed to the functions above
+
+// A reader at the end of the last entry: `good` is the good length that opening answers.
+pub fn new<'a>(book: &'a [u8], good: usize) -> Reader<'a>
+    ensures { λ r. ⌜ (r .book ≡ book .entry) × (r .at ≡ good) ⌝ }
+{
+    Reader { book, at: good }
+}
+
+// The entry that ends where the reader stands.
+pub fn last<'a>(r: Reader<'a>) -> Fetched
+    ensures { λ s. ⌜ s ≡ fetchedBefore (now (r .entry .book)) (r .entry .at) ⌝ }
+{
+    entry_before(r.book, r.at)
+}
+
+// Where that entry starts.
+pub fn start<'a>(r: Reader<'a>) -> usize
+    ensures { λ n. ⌜ n ≡ startBefore (now (r .entry .book)) (r .entry .at) ⌝ }
+{
+    start_before(r.book, r.at)
+}
+
+// The same reader at another place.
+pub fn moved<'a>(r: Reader<'a>, at: usize) -> Reader<'a>
+    ensures { λ q. ⌜ (q .book ≡ r .entry .book) × (q .at ≡ at) ⌝ }
+{
+    Reader { book: r.book, at }
+}
+
+// The reader one entry back.
+pub fn back<'a>(r: Reader<'a>) -> Reader<'a>
+    ensures { λ q. ⌜ (q .book ≡ r .entry .book) × (q .at ≡ startBefore (now (r .entry .book)) (r .entry .at)) ⌝ }
+{
+    moved(r, start(r))
+}
+
+// Entry k, counted from 1, of the entries up to where the reader stands.
+pub fn fetch<'a>(r: Reader<'a>, k: usize) -> Fetched
+    ensures { λ s. ⌜ s ≡ fetched (now (r .entry .book)) (r .entry .at) k ⌝ }
+{
+    fetch_in(r.book, r.at, k)
+}

@@ -1,2 +1,2 @@
-pub mod Vectors
+pub mod Numbers
 pub mod Meaning

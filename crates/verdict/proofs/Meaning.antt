@@ -9,30 +9,34 @@ use lib.ListN.{length}
 use lib.Seq.{ext-getD}
 use Rattle.value.specs.declared.Ternary.{Ternary}
 use Rattle.value.specs.declared.Ternary.the-variants.{V0}
-use Rattle.verdict.specs.Vectors.{at, put, pairOrder, vectorOf, numberFrom}
+use Rattle.orders.specs.Vectors.{at, put, vectorOf}
+use Rattle.orders.specs.Pairs.{pairOrder}
+use Rattle.verdict.specs.Numbers.{numberFrom}
 use Rattle.verdict.specs.Verdict as words
 use Rattle.verdict.specs.Meaning.{before, now, shown, meant, Disagrees, Fits, fits-independent, fits-dependent, Sound, SoundFinding}
 use Rattle.verdict.specs.declared.Witness.{Witness}
 use Rattle.verdict.specs.declared.Finding.{Finding}
 use Rattle.verdict.specs.declared.Finding.the-variants.{Independent, Dependent}
-use Rattle.verdict.proofs.Vectors.{length-put, at-same, at-other, vector-length, vector-number, number-vector, number-below}
+use Rattle.orders.proofs.Places.{length-put, at-same, at-other, ext-at}
+use Rattle.orders.proofs.Candidates.{length-vectorOf}
+use Rattle.verdict.proofs.Numbers.{vector-number, number-vector, number-below}
 
 -- ---- the current vector of a witness
 
 pub now-length : (n : ℕ) (w : Witness) → length (now n w) ≡ n
 now-length n w =
     length-put (put (before n w) (w .first) (w .«first_now»)) (w .second) (w .«second_now»)
-    ∙ length-put (before n w) (w .first) (w .«first_now») ∙ vector-length n (w .previous)
+    ∙ length-put (before n w) (w .first) (w .«first_now») ∙ length-vectorOf n (w .previous)
 
 pub now-first : (n : ℕ) (w : Witness) → Sound n w → at (now n w) (w .first) ≡ w .«first_now»
 now-first n w s =
     at-other (put (before n w) (w .first) (w .«first_now»)) (w .second) (w .first) (w .«second_now») (λ e. omega (arith, s .apart))
-    ∙ at-same (before n w) (w .first) (w .«first_now») (s .from) (omega (arith, s .apart, s .to, vector-length n (w .previous)))
+    ∙ at-same (before n w) (w .first) (w .«first_now») (s .from) (omega (arith, s .apart, s .to, length-vectorOf n (w .previous)))
 
 pub now-second : (n : ℕ) (w : Witness) → Sound n w → at (now n w) (w .second) ≡ w .«second_now»
 now-second n w s =
     at-same (put (before n w) (w .first) (w .«first_now»)) (w .second) (w .«second_now») (omega (arith, s .from, s .apart))
-    (omega (arith, s .to, vector-length n (w .previous), length-put (before n w) (w .first) (w .«first_now»)))
+    (omega (arith, s .to, length-vectorOf n (w .previous), length-put (before n w) (w .first) (w .«first_now»)))
 
 pub now-other : (n : ℕ) (w : Witness) (k : ℕ) → k ≢ w .first → k ≢ w .second → at (before n w) k ≡ at (now n w) k
 now-other n w k a b =
@@ -47,7 +51,7 @@ sound-fits n (Dependent w) s = fits-dependent (w .first) (w .second) (record {
   from = s .from;
   apart = s .apart;
   to = s .to;
-  prev-long = vector-length n (w .previous);
+  prev-long = length-vectorOf n (w .previous);
   cur-long = now-length n w;
   differs-i = λ e. s .first-differs (e ∙ now-first n w s);
   differs-j = λ e. s .second-differs (e ∙ now-second n w s);
@@ -58,9 +62,6 @@ sound-fits n (Dependent w) s = fits-dependent (w .first) (w .second) (record {
 })
 
 -- ---- what fits is meant by a sound finding
-
-at-ext : (u v : List Ternary) → length u ≡ length v → ((k : ℕ) → at u k ≡ at v k) → u ≡ v
-at-ext u v e h = ext-getD V0 u v e (λ i l. h (suc i))
 
 module _ (n i j : ℕ) (w : words.Witness) (d : Disagrees n i j w) where
   held : Witness
@@ -93,7 +94,7 @@ module _ (n i j : ℕ) (w : words.Witness) (d : Disagrees n i j w) where
 
   held-now : now n held ≡ w .cur
   unfolding held
-  held-now = at-ext (now n held) (w .cur) (now-length n held ∙ sym (d .cur-long)) (λ k. go k (ℕ-discrete k i) (ℕ-discrete k j))
+  held-now = ext-at (now n held) (w .cur) (now-length n held ∙ sym (d .cur-long)) (λ k l. go k (ℕ-discrete k i) (ℕ-discrete k j))
     where
       go : (k : ℕ) → Dec (k ≡ i) → Dec (k ≡ j) → at (now n held) k ≡ at (w .cur) k
       go k (yes e) b = rw e (now-first n held held-sound)

@@ -1,3 +1,3 @@
-pub mod Vectors
+pub mod Numbers
 pub mod Verdict
 pub mod Meaning

@@ -5,7 +5,8 @@ use mathlib.Core.List.{List}
 use lib.ListN.{length}
 use Prim.Native.Nat.{ℕ, _≤_, _<_, _^_}
 use Rattle.value.specs.declared.Ternary.{Ternary}
-use Rattle.verdict.specs.Vectors.{at, put, pairOrder, vectorOf}
+use Rattle.orders.specs.Vectors.{at, put, vectorOf}
+use Rattle.orders.specs.Pairs.{pairOrder}
 use Rattle.verdict.specs.Verdict as words
 use Rattle.verdict.specs.declared.Witness.{Witness}
 use Rattle.verdict.specs.declared.Finding.{Finding}

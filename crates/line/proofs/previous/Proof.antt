@@ -6,7 +6,7 @@ use denote.Ref.{now}
 use borrow.Author.Needs.{needs}
 use Rattle.files.specs.Parts.{partAt}
 use Rattle.entry.specs.Entry.{space}
-use Rattle.verdict.proofs.Vectors.{rank-low}
+use Rattle.orders.proofs.Candidates.{rank-low}
 use Rattle.line.proofs.Lines.{numberUpTo, number-none, number-more, number-small, number-all}
 use Rattle.line.proofs.previous.Statement.{statement}
 use Rattle.line.proofs.previous.Tie as tie
