@@ -2,7 +2,7 @@
 // `answer` what it was asked for, or the refusal's place.
 ghost use mathlib.Core.Path.{_≡_};
 ghost use Prim.Native.Nat.{_<_};
-ghost use lib.ListN.{getD};
+ghost use lib.ListN.{length, getD};
 ghost use Rattle.base.specs.Listed.{listed};
 ghost use Rattle.verdict.specs.declared.Finding.the-variants.{Dependent};
 ghost use Rattle.value.specs.Value.{readByte};
@@ -13,11 +13,16 @@ ghost use Rattle.formed.specs.Tests.{wellFormed};
 ghost use Rattle.evaluation.specs.Call.{evaluated};
 ghost use Rattle.bankplover.specs.Told.{evaluationNumber, evaluationTold};
 ghost use Rattle.bankplover.specs.Books.{openedNumber, openedTold, openedCells, smallOf, saysValue, valueSaid, saysFinding, witnessFrom, findingFrom, handed, appendedNumber, appendedTold, letterOf, witnessNumber, entryNumber, fetchedNumber, fetchedTold, entryCells};
+ghost use Rattle.bankplover.specs.Judges.{told, readTold, JudgeTold, bitOf, squareCells};
+ghost use Rattle.reading.specs.Told.{readInto};
+ghost use mathlib.Core.Bool.{cond};
 ghost use Rattle.book.specs.Book.{opened as openedOf, appended, fetched};
 use book::Appended;
 use book::Fetched;
 use book::Opened;
 use evaluation::Evaluated;
+use judge::Judged;
+use reading::Reading;
 use value::Byte;
 use value::Ternary;
 use verdict::Finding;
@@ -29,6 +34,11 @@ const WITNESS: usize = 8;
 const OPENED: usize = 3;
 
 const ENTRY: usize = 13;
+
+const SQUARE: usize = 81;
+
+// What reading answers where only blanks and comments remain: no refusal has this number.
+const END: u8 = 255;
 
 // The value that a byte says, x where it says none.
 fn value_in(b: u8) -> Ternary
@@ -93,6 +103,101 @@ pub extern "C" fn bankplover_evaluate(
             number
         }
     }
+}
+
+// Reads one primitive into an area.
+#[no_mangle]
+pub extern "C" fn bankplover_read(
+    text: &[u8],
+    start: usize,
+    area: &mut [u8],
+    answer: &mut usize,
+) -> u8
+    ensures { λ r. ⌜ readTold (length (now (text .entry))) (readInto (now (text .entry)) start (now (area .entry))) ≡ told r (now (answer .exit)) (now (area .exit)) ⌝ }
+{
+    let r = reading::read(text, start, area);
+    match r {
+        Reading::Table(next) => {
+            *answer = next;
+            0
+        }
+        Reading::End => {
+            *answer = text.len();
+            END
+        }
+        Reading::Refused(number, place) => {
+            *answer = place;
+            number
+        }
+    }
+}
+
+fn witness_numbers(finding: Finding) -> [usize; WITNESS]
+    ensures { λ r. ⌜ r ≡ listed (witnessNumber finding) 8 ⌝ }
+{
+    let mut l = [0usize; WITNESS];
+    let mut k: usize = 0;
+    while k < WITNESS {
+        l[k] = witness_number(finding, k);
+        k += 1;
+    }
+    l
+}
+
+// Judges a table.
+#[no_mangle]
+pub extern "C" fn bankplover_judge(
+    area: &[u8],
+    witness: &mut [usize; WITNESS],
+    answer: &mut usize,
+) -> u8
+    ensures { λ r. ⌜ JudgeTold (now (area .entry)) r (now (answer .exit)) (now (witness .entry)) (now (witness .exit)) ⌝ }
+{
+    let j = judge::judge(area);
+    match j {
+        Judged::Found(f) => {
+            *answer = base::wide(letter_of(f));
+            *witness = witness_numbers(f);
+            0
+        }
+        Judged::Refused(number, place) => {
+            *answer = place;
+            number
+        }
+    }
+}
+
+fn bit_of(s: [[bool; base::INPUTS]; base::INPUTS], k: usize) -> u8
+    requires { ⌜ k < 81 ⌝ }
+    ensures { λ r. ⌜ r ≡ bitOf s k ⌝ }
+{
+    if s[k / 9][k % 9] { 1 } else { 0 }
+}
+
+// The pairwise answers.
+#[no_mangle]
+pub extern "C" fn bankplover_square(
+    area: &[u8],
+    square: &mut [u8; SQUARE],
+    answer: &mut usize,
+) -> u8
+    ensures { λ r. ⌜ r ≡ cond (wellFormed (now (area .entry))) 0 10 ⌝ }
+    ensures cells { λ _. ⌜ now (square .exit) ≡ squareCells (now (area .entry)) (now (square .entry)) ⌝ }
+    ensures told { λ _. ⌜ now (answer .exit) ≡ 0 ⌝ }
+{
+    *answer = 0;
+    if !formed::well_formed(area) {
+        return 10;
+    }
+    let s = judge::square(area);
+    let mut l = [0u8; SQUARE];
+    let mut k: usize = 0;
+    while k < SQUARE {
+        l[k] = bit_of(s, k);
+        k += 1;
+    }
+    *square = l;
+    0
 }
 
 // Opens a book of which `stated` bytes count.

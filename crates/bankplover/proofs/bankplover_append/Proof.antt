@@ -9,10 +9,90 @@ unfolding appendedNumber appendedTold
 bankplover-append-spec =
     tie.close
     (tie.spec
-    (λ c κs. search needs)
-    (λ c. search needs)
-    (λ c. search needs)
-    (λ c. search needs)
-    (λ c. rw (← c .before .before .before .before .before .append-to .ensures .0, c .before .a .given .1) (refl, (c .before .before .before .before .before .append-to .ensures .1, refl)))
-    (λ c. search needs)
-    (λ c. rw (← c .before .before .before .before .before .append-to .ensures .0, c .before .a2 .given .1) (refl, (c .before .before .before .before .before .append-to .ensures .1, refl))))
+    (λ
+    c
+    κs.
+    search
+    needs)
+    (λ
+    c.
+    search
+    needs)
+    (λ
+    c.
+    search
+    needs)
+    (λ
+    c.
+    search
+    needs)
+    (λ
+    c.
+    rw (
+      ←
+          c
+          .before
+          .before
+          .before
+          .before
+          .before
+          .append-to
+          .ensures
+          .0,
+      c
+          .before
+          .a
+          .given
+          .1,
+    ) (
+      refl,
+      (
+        c
+            .before
+            .before
+            .before
+            .before
+            .before
+            .append-to
+            .ensures
+            .1,
+        refl,
+      ),
+    ))
+    (λ
+    c.
+    search
+    needs)
+    (λ
+    c.
+    rw (
+      ←
+          c
+          .before
+          .before
+          .before
+          .before
+          .before
+          .append-to
+          .ensures
+          .0,
+      c
+          .before
+          .a2
+          .given
+          .1,
+    ) (
+      refl,
+      (
+        c
+            .before
+            .before
+            .before
+            .before
+            .before
+            .append-to
+            .ensures
+            .1,
+        refl,
+      ),
+    )))

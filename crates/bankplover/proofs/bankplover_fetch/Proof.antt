@@ -9,9 +9,71 @@ unfolding fetchedNumber fetchedTold entryCells
 bankplover-fetch-spec =
     tie.close
     (tie.spec
-    (λ c κs. search needs)
-    (λ c. search needs)
-    (λ c κs. search needs)
-    (λ c. search needs)
-    (λ c. rw (← c .before .before .before .before .fetch .ensures, c .before .before .f .given .1, ← c .entry-numbers .ensures) (refl, (refl, refl)))
-    (λ c. rw (← c .before .before .before .fetch .ensures, c .before .f2 .given .1) (refl, (refl, refl))))
+    (λ
+    c
+    κs.
+    search
+    needs)
+    (λ
+    c.
+    search
+    needs)
+    (λ
+    c
+    κs.
+    search
+    needs)
+    (λ
+    c.
+    search
+    needs)
+    (λ
+    c.
+    rw (
+      ←
+          c
+          .before
+          .before
+          .before
+          .before
+          .fetch
+          .ensures,
+      c
+          .before
+          .before
+          .f
+          .given
+          .1,
+      ←
+          c
+          .entry-numbers
+          .ensures,
+    ) (
+      refl,
+      (
+        refl,
+        refl,
+      ),
+    ))
+    (λ
+    c.
+    rw (
+      ←
+          c
+          .before
+          .before
+          .before
+          .fetch
+          .ensures,
+      c
+          .before
+          .f2
+          .given
+          .1,
+    ) (
+      refl,
+      (
+        refl,
+        refl,
+      ),
+    )))

@@ -9,11 +9,72 @@ unfolding openedNumber openedTold openedCells
 bankplover-open-spec =
     tie.close
     (tie.spec
-    (λ c κs. search needs)
-    (λ c. search needs)
-    (λ c. search needs)
-    (λ c. search needs)
-    (λ c. search needs)
-    (λ c. search needs)
-    (λ c. rw (← c .before .before .before .open-book .ensures, c .before .o .given .1) (refl, (refl, refl)))
-    (λ c. rw (← c .before .before .before .open-book .ensures, c .before .o2 .given .1) (refl, (refl, refl))))
+    (λ
+    c
+    κs.
+    search
+    needs)
+    (λ
+    c.
+    search
+    needs)
+    (λ
+    c.
+    search
+    needs)
+    (λ
+    c.
+    search
+    needs)
+    (λ
+    c.
+    search
+    needs)
+    (λ
+    c.
+    search
+    needs)
+    (λ
+    c.
+    rw (
+      ←
+          c
+          .before
+          .before
+          .before
+          .open-book
+          .ensures,
+      c
+          .before
+          .o
+          .given
+          .1,
+    ) (
+      refl,
+      (
+        refl,
+        refl,
+      ),
+    ))
+    (λ
+    c.
+    rw (
+      ←
+          c
+          .before
+          .before
+          .before
+          .open-book
+          .ensures,
+      c
+          .before
+          .o2
+          .given
+          .1,
+    ) (
+      refl,
+      (
+        refl,
+        refl,
+      ),
+    )))
