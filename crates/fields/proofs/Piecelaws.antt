@@ -1,13 +1,9 @@
--- Bytes and fields at a place of a text. Assumes nothing.
+-- What may stand in a field. Assumes nothing.
 use mathlib.Core.Path.{_≡_, refl, sym}
-use mathlib.Core.Bool.{Bool, true, false, not, cond, _&&_, _||_}
-use mathlib.Core.List.{List, [], _∷_}
+use mathlib.Core.Bool.{Bool, true, false, not, cond}
+use mathlib.Core.List.{List}
 use mathlib.Core.Option.{Option, none, some}
-use Prim.Native.Nat.{ℕ, suc, _+_, _≤_, _<_}
-use native.Mathlib.Numerals.{add-one}
-use lib.Dec.{eqb}
-use lib.ListN.{length, getD, drop, drop-of-length-le}
-use lib.Seq.{drop-cons}
+use Prim.Native.Nat.{ℕ}
 use Rattle.base.proofs.Bools.{clash}
 use Rattle.symbol.specs.declared.Level.{Level}
 use Rattle.symbol.specs.declared.Level.the-variants.{Zero, One, Unknown, Binary, Any}
@@ -16,50 +12,14 @@ use Rattle.symbol.specs.declared.Symbol.the-variants.{Held, Edge, Rise, Fall, P
 use Rattle.symbol.specs.declared.Output.{Output}
 use Rattle.symbol.specs.declared.Output.the-variants.{Outx}
 use Rattle.symbol.specs.Match.{isEdge}
-use Rattle.text.specs.Blanks.{one}
-use Rattle.text.specs.Reader.{got, bind, give, fault, said, ahead}
+use Rattle.text.specs.Reader.{bind, give}
 use Rattle.text.specs.Places.{meant}
 use Rattle.text.specs.declared.Step.{Step}
 use Rattle.text.specs.declared.Step.the-variants.{At, Refused}
 use Rattle.grammar.specs.Rows.{columnOf, mayStand, stateOf, levelIn, levelOut, outputSaid}
 use Rattle.fields.specs.declared.Token.{Token}
 use Rattle.fields.specs.declared.Token.the-variants.{Entry, Dash}
-use Rattle.fields.specs.Pieces.{writtenAs, isSome, orElse, asSymbol, asLevel, asOutput, begins}
-
--- ---- a byte at a place
-
-pub ahead-is : (p : ℕ → Bool) (k : ℕ) (s : List ℕ) → ahead p k s ≡ got (begins p s) k s
-ahead-is p k [] = refl
-ahead-is p k (b ∷ l) = refl
-
-pub one-begins : (c : ℕ) (s : List ℕ) → one c s ≡ begins (λ b. eqb b c) s
-one-begins c [] = refl
-one-begins c (b ∷ l) = refl
-
-pub ahead-one : (c k : ℕ) (s : List ℕ) → ahead (λ b. eqb b c) k s ≡ got (one c s) k s
-ahead-one c k [] = refl
-ahead-one c k (b ∷ l) = refl
-
-pub begins-or : (p q : ℕ → Bool) (s : List ℕ) → begins (λ b. p b || q b) s ≡ (begins p s || begins q s)
-begins-or p q [] = refl
-begins-or p q (b ∷ l) = refl
-
-module _ (t : List ℕ) (i : ℕ) where
-  pub begins-cons : (p : ℕ → Bool) → i < length t → begins p (drop i t) ≡ p (getD t i 0)
-  begins-cons p h = rw (drop-cons t i 0)
-
-  pub begins-nil : (p : ℕ → Bool) → length t ≤ i → begins p (drop i t) ≡ false
-  begins-nil p h = rw (drop-of-length-le t h)
-
-  module _ {A : Type 0} (f : ℕ → Option A) where
-    pub said-some : (a : A) → i < length t → some a ≡ f (getD t i 0) → said f i (drop i t) ≡ got a (i + 1) (drop (i + 1) t)
-    said-some a h e = rw (add-one, drop-cons t i 0, ← e)
-
-    pub said-none : i < length t → none ≡ f (getD t i 0) → said f i (drop i t) ≡ fault i (drop i t)
-    said-none h e = rw (drop-cons t i 0, ← e)
-
-    pub said-nil : length t ≤ i → said f i (drop i t) ≡ fault i (drop i t)
-    said-nil h = rw (drop-of-length-le t h)
+use Rattle.fields.specs.Pieces.{writtenAs, isSome, orElse, asSymbol, asLevel, asOutput}
 
 -- ---- what may stand in a field says something there
 

@@ -1,5 +1,5 @@
 -- What the code's answers on a row's fields mean.
-use mathlib.Core.List.{List, [], _∷_}
+use mathlib.Core.List.{List}
 use mathlib.Core.Bool.{Bool, true, false, not}
 use mathlib.Core.Option.{Option, none, some}
 use Prim.Native.Nat.{ℕ}
@@ -64,11 +64,6 @@ asLevel w = orElse Any (stateOf (writtenAs w))
 
 abbrev pub asOutput : Token → Output
 asOutput w = orElse Outx (outputSaid true (writtenAs w))
-
--- a text begins with a byte that has the property
-abbrev pub begins : (ℕ → Bool) → List ℕ → Bool
-begins p [] = false
-begins p (b ∷ l) = p b
 
 -- one column: a colon there is 7
 unfoldable pub column : Bool → Reader Symbol

@@ -1,4 +1,3 @@
-pub mod Sum
 pub mod Flags
 pub mod Keeping
 pub mod Steps

@@ -1,56 +1,42 @@
 -- Steps of the header at a place of a text. Assumes nothing.
 use mathlib.Core.Path.{_≡_, refl, sym, _∙_}
-use mathlib.Core.List.{List, [], _∷_}
-use mathlib.Core.Bool.{Bool, true, false, not, cond, _&&_, _||_}
-use Prim.Native.Nat.{ℕ, suc, _+_, _≤_, _<_}
-use native.Mathlib.Numerals.{add-one}
-use native.Mathlib.Omega.{arith}
-use lib.Dec.{eqb}
-use lib.ListN.{length, getD, drop, drop-of-length-le}
-use lib.Seq.{drop-cons, drop-drop}
-use borrow.Author.Tests.{eqb-true, ne-eqb}
+use mathlib.Core.List.{List, [], _∷_, _++_}
+use mathlib.Core.Bool.{Bool, true, false, not, _&&_, _||_}
+use Prim.Native.Nat.{ℕ, suc}
+use borrow.Author.Tests.{ne-eqb}
 use Rattle.value.specs.declared.Ternary.the-variants.{Vx}
 use Rattle.text.specs.Bytes.{is, letter}
-use Rattle.text.specs.Blanks.{one}
 use Rattle.text.specs.Words.{same, member}
-use Rattle.text.specs.Reader.{Result, got, refused, Reader, bind, _>>=_, _>>_, give, check, if, skip, word, byte, ahead, fault, Named, name, sign}
-use Rattle.grammar.specs.Header.{declaring, declarations, remove, inputList, listRoom, initial, noneLeft}
+use Rattle.text.specs.Reader.{Result, got, refused, Reader, bind, _>>=_, _>>_, give, check, if, skip, word, fault, Named, name, sign, either, refuse}
+use Rattle.grammar.specs.Header.{ports, declaring, declarations, remove, inputList, listRoom, initial, noneLeft}
 use Rattle.ports.specs.Heads.{declare, declaringWord}
 
 -- what V ends with
 abbrev pub digitByte : ℕ → Bool
 digitByte c = is c "0" || is c "1" || letter c "x" "X"
 
-module _ (t : List ℕ) (i : ℕ) (p : ℕ → Bool) where
-  pub byte-cons : i < length t → byte p i (drop i t) ≡ cond (p (getD t i 0)) (got (getD t i 0) (i + 1) (drop (i + 1) t)) (fault i (drop i t))
-  byte-cons h = rw (add-one, drop-cons t i 0)
+-- ---- names of a list, one at a time
 
-  pub byte-nil : length t ≤ i → byte p i (drop i t) ≡ fault i (drop i t)
-  byte-nil h = rw (drop-of-length-le t h)
+pub ports-one : (room : ℕ) (q : List ℕ) (seen : List (List ℕ)) (k : ℕ) (s : List ℕ)
+    → ports (suc room) q seen k s
+    ≡ bind (name k s) (λ w. check (not (member (w .spelt) (q ∷ seen))) 5 (w .place) >> (either "," ")" >>= λ more. if more (ports room q (seen ++ (w .spelt ∷ []))) (give (seen ++ (w .spelt ∷ [])))))
+unfolding ports _>>=_
+ports-one room q seen k s = refl
 
--- one of two bytes
-pub byte-two : (t : List ℕ) (i c d : ℕ)
-    → byte (λ b. eqb b c || eqb b d) i (drop i t)
-    ≡ cond (one c (drop i t)) (got c (i + 1) (drop (i + 1) t)) (cond (one d (drop i t)) (got d (i + 1) (drop (i + 1) t)) (fault i (drop i t)))
-byte-two t i c d = let e : i + 1 ≡ suc i = omega arith in rw (← drop-drop 1 i t, e) (go (drop i t))
-  where
-    go : (s : List ℕ) → byte (λ b. eqb b c || eqb b d) i s ≡ cond (one c s) (got c (suc i) (drop 1 s)) (cond (one d s) (got d (suc i) (drop 1 s)) (fault i s))
-    go [] = refl
-    go (b ∷ l) = pick (eqb b c) refl (eqb b d) refl
-      where
-        pick : (x : Bool) → eqb b c ≡ x → (y : Bool) → eqb b d ≡ y
-            → cond (x || y) (got b (suc i) l) (fault i (b ∷ l)) ≡ cond x (got c (suc i) l) (cond y (got d (suc i) l) (fault i (b ∷ l)))
-        pick true e y f = rw (eqb-true b c e)
-        pick false e true f = rw (eqb-true b d f)
-        pick false e false f = refl
+pub ports-full : (q : List ℕ) (seen : List (List ℕ)) (k : ℕ) (s : List ℕ)
+    → ports 0 q seen k s ≡ bind (name k s) (λ w. check (not (member (w .spelt) (q ∷ seen))) 5 (w .place) >> refuse 6 (w .place))
+unfolding ports _>>=_
+ports-full q seen k s = refl
 
-pub ahead-one : (c k : ℕ) (s : List ℕ) → ahead (λ b. eqb b c) k s ≡ got (one c s) k s
-ahead-one c k [] = refl
-ahead-one c k (b ∷ l) = refl
+pub list-one : (room : ℕ) (q : List ℕ) (left : List (List ℕ)) (k : ℕ) (s : List ℕ)
+    → inputList (suc room) q left k s
+    ≡ bind (name k s) (λ w. check (not (same (w .spelt) q) && member (w .spelt) left) 5 (w .place) >> (either "," ";" >>= λ more. if more (inputList room q (remove (w .spelt) left)) (give (remove (w .spelt) left))))
+unfolding inputList _>>=_
+list-one room q left k s = refl
 
-pub ahead-none : (k : ℕ) (s : List ℕ) → ahead (λ b. false) k s ≡ got false k s
-ahead-none k [] = refl
-ahead-none k (b ∷ l) = refl
+pub list-none : (q : List ℕ) (left : List (List ℕ)) (k : ℕ) (s : List ℕ) → inputList 0 q left k s ≡ fault k s
+unfolding inputList
+list-none q left k s = refl
 
 -- ---- the declarations, one at a time
 

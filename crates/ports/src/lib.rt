@@ -5,6 +5,7 @@ ghost use mathlib.Core.List.{List};
 ghost use Prim.Native.Nat.{ℕ, _+_, _≤_};
 ghost use lib.Dec.{eqb};
 ghost use lib.ListN.{drop};
+ghost use Rattle.base.specs.Limits.{inputLimit};
 ghost use Rattle.value.specs.Value.{valueOf};
 ghost use Rattle.text.specs.Words.{member};
 ghost use Rattle.text.specs.Reader.{word, bind};
@@ -58,7 +59,7 @@ fn position(
     ends: [usize; PORTS],
     count: usize,
 ) -> usize
-    requires { ⌜ count ≤ 10 ⌝ }
+    requires { ⌜ count ≤ inputLimit + 1 ⌝ }
     ensures { λ r. ⌜ placed count r ≡ find (now (w .entry)) (portsOf (now (text .entry)) starts ends count) ⌝ }
 {
     let mut k: usize = 0;
@@ -148,7 +149,7 @@ fn read_declaring(text: &[u8], at: usize) -> Step
 
 // An input whose flag is down: neither the output nor past the n inputs.
 fn is_fresh(flags: [bool; PORTS], n: usize, j: usize) -> bool
-    requires { ⌜ n ≤ 9 ⌝ }
+    requires { ⌜ n ≤ inputLimit ⌝ }
     ensures { λ r. ⌜ r ≡ (not (eqb j 0) && isDown (placed (n + 1) j) flags) ⌝ }
 {
     if j == 0 {
@@ -162,7 +163,7 @@ fn is_fresh(flags: [bool; PORTS], n: usize, j: usize) -> bool
 
 // The flags of the n + 1 ports are up.
 fn all_declared(flags: [bool; PORTS], n: usize) -> bool
-    requires { ⌜ n ≤ 9 ⌝ }
+    requires { ⌜ n ≤ inputLimit ⌝ }
     ensures { λ r. ⌜ r ≡ allUp (n + 1) flags ⌝ }
 {
     let mut k: usize = 0;
@@ -265,7 +266,7 @@ fn read_list(
     n: usize,
     flags: [bool; PORTS],
 ) -> Flagged
-    requires { ⌜ (n ≤ 9) × Distinct (portsOf (now text) starts ends (n + 1)) ⌝ }
+    requires { ⌜ (n ≤ inputLimit) × Distinct (portsOf (now text) starts ends (n + 1)) ⌝ }
     ensures { λ r. ⌜ inputList listRoom (portAt (now (text .entry)) starts ends 0) (down (portsOf (now (text .entry)) starts ends (n + 1)) flags) at (drop at (now (text .entry)))
         ≡ meant (now (text .entry)) (λ a e. down (portsOf (now (text .entry)) starts ends (n + 1)) (r .flags)) (r .step) ⌝ }
 {
@@ -349,7 +350,7 @@ fn read_declarations(
     ends: [usize; PORTS],
     n: usize,
 ) -> HeadStep
-    requires { ⌜ (n ≤ 9) × Distinct (portsOf (now text) starts ends (n + 1)) ⌝ }
+    requires { ⌜ (n ≤ inputLimit) × Distinct (portsOf (now text) starts ends (n + 1)) ⌝ }
     ensures { λ r. ⌜ bind (declarations declarationRoom (portAt (now (text .entry)) starts ends 0) (portsOf (now (text .entry)) starts ends (n + 1)) false at (drop at (now (text .entry)))) (headWith n)
         ≡ means (now (text .entry)) (λ h. h) r ⌝ }
 {

@@ -27,8 +27,8 @@ use Rattle.text.specs.declared.Step.the-variants.{At, Refused}
 use Rattle.grammar.proofs.Post.{Gives, after, past, given}
 use Rattle.text.specs.Reader.{Result, got, refused, bind, _>>=_, _>>_, give, check, if, skip, ahead, keyword}
 use Rattle.grammar.specs.Rows.{columns, row, rows, agrees, beginsRow, noRows}
-use Rattle.fields.specs.Pieces.{begins}
-use Rattle.fields.proofs.Piecelaws.{ahead-is}
+use Rattle.text.specs.Blanks.{begins}
+use Rattle.text.proofs.Readlaws.{ahead-is}
 use Rattle.reading.specs.Told.{drawn, withRows, Begun}
 
 -- ---- rows, one at a time

@@ -10,6 +10,8 @@ use Rattle.table.specs.Places.{areaSize}
 use Rattle.table.specs.Table.{Row, Table, Shaped}
 use Rattle.table.specs.Area.{encode, decode}
 use Rattle.text.specs.Reader.{Result, got, refused, Reader, _>>=_, _>>_, give, sign}
+use Rattle.text.specs.declared.Step.{Step}
+use Rattle.text.specs.declared.Step.the-variants.{At as StepAt, Refused as StepRefused}
 use Rattle.grammar.specs.Rows.{state, field, outputSaid}
 use Rattle.grammar.specs.Reading.{Reading as Read, table, end, refusal, read}
 use Rattle.reading.specs.declared.Reading.{Reading}
@@ -28,6 +30,11 @@ told area (refusal c p) = out (Refused c p) area
 -- an area of the wrong size is 10, before all else
 unfoldable pub readInto : List ℕ → ℕ → List ℕ → Out
 readInto text start area = cond (eqb (length area) areaSize) (told area (read text start)) (out (Refused 10 0) area)
+
+-- a step's refusal as the call's
+abbrev pub refusalOf : Step → Reading
+refusalOf (StepAt a e) = Refused 3 e
+refusalOf (StepRefused c p) = Refused c p
 
 -- ---- while a table is read it is drawn into an area
 

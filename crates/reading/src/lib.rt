@@ -12,7 +12,7 @@ ghost use Rattle.writing.specs.Written.{rowWritten};
 ghost use Rattle.grammar.specs.Rows.{columns, row, rows as rowsOf};
 ghost use Rattle.grammar.specs.Reading.{primitive};
 ghost use Rattle.grammar.proofs.Flags.{behind};
-ghost use Rattle.reading.specs.Told.{out, readInto, drawn, rowTail, withRows, Begun};
+ghost use Rattle.reading.specs.Told.{out, readInto, refusalOf, drawn, rowTail, withRows, Begun};
 use fields::Piece;
 use ports::HeadStep;
 use symbol::Level;
@@ -26,6 +26,16 @@ pub enum Reading {
     End,
     // A refusal's number and place.
     Refused(u8, usize),
+}
+
+// A step's refusal as the call's.
+fn refusal(s: Step) -> Reading
+    ensures { λ r. ⌜ r ≡ refusalOf s ⌝ }
+{
+    match s {
+        Step::At(_, e) => Reading::Refused(3, e),
+        Step::Refused(n, p) => Reading::Refused(n, p),
+    }
 }
 
 // The colon, the state, the output and the semicolon behind a row's columns; then the row is added.
@@ -166,11 +176,9 @@ pub fn read(text: &[u8], start: usize, area: &mut [u8]) -> Reading
     }
     let mut draft = [0u8; table::AREA];
     let s = read_primitive(text, i, &mut draft);
-    match s {
-        Step::At(_, e) => {
-            bytes::copy(&draft, area);
-            Reading::Table(e)
-        }
-        Step::Refused(n, p) => Reading::Refused(n, p),
-    }
+    let Step::At(_, e) = s else {
+        return refusal(s);
+    };
+    bytes::copy(&draft, area);
+    Reading::Table(e)
 }

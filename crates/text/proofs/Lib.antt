@@ -1,3 +1,4 @@
+pub mod Sum
 pub mod Classes
 pub mod Blanklaws
 pub mod Wordlaws

@@ -8,7 +8,11 @@ use lib.Dec.{eqb}
 use lib.ListN.{drop}
 use Rattle.text.specs.Bytes.{is, isBlank}
 
--- a text begins with the byte c; with the bytes c and d
+-- a text begins with a byte that has the property; with the byte c; with the bytes c and d
+abbrev pub begins : (ℕ → Bool) → List ℕ → Bool
+begins p [] = false
+begins p (b ∷ l) = p b
+
 abbrev pub one : ℕ → List ℕ → Bool
 one c [] = false
 one c (b ∷ l) = eqb b c

@@ -3,7 +3,8 @@ use denote.Ref.{now}
 use Rattle.text.specs.Reader.{_>>=_, check}
 use Rattle.grammar.specs.Rows.{columns}
 use Rattle.text.specs.Bytes.{isSymbol}
-use Rattle.fields.proofs.Piecelaws.{ahead-is, cut}
+use Rattle.fields.proofs.Piecelaws.{cut}
+use Rattle.text.proofs.Readlaws.{ahead-is}
 use borrow.Author.Needs.{needs}
 use Rattle.fields.proofs.read_colon.Statement.{statement}
 use Rattle.fields.proofs.read_colon.Tie as tie

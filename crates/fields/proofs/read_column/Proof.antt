@@ -2,7 +2,8 @@ use Rattle.fields.specs.Pieces.{column}
 use mathlib.Core.Path.{sym, _∙_}
 use Rattle.text.specs.Reader.{_>>=_, need, check}
 use Rattle.grammar.specs.Rows.{field, saying}
-use Rattle.fields.proofs.Piecelaws.{ahead-one, column-yes, column-no}
+use Rattle.fields.proofs.Piecelaws.{column-yes, column-no}
+use Rattle.text.proofs.Readlaws.{ahead-one}
 use borrow.Author.Needs.{needs}
 use Rattle.fields.proofs.read_column.Statement.{statement}
 use Rattle.fields.proofs.read_column.Tie as tie

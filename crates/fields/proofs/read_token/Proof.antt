@@ -1,10 +1,9 @@
 use lib.ListN.{drop}
 use Rattle.text.proofs.Blanklaws.{one-room}
-use Rattle.text.proofs.Readlaws.{mark-at}
+use Rattle.text.proofs.Readlaws.{mark-at, ahead-one}
 use denote.Ref.{now}
 use Rattle.text.specs.Reader.{_>>=_, if}
 use Rattle.grammar.specs.Rows.{written}
-use Rattle.fields.proofs.Piecelaws.{ahead-one}
 use native.Mathlib.Omega.{arith}
 use borrow.Author.Needs.{needs}
 use Rattle.fields.proofs.read_token.Statement.{statement}

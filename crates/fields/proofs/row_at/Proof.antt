@@ -1,6 +1,6 @@
 use lib.Dec.{eqb}
 use Rattle.text.specs.Bytes.{isSymbol}
-use Rattle.fields.proofs.Piecelaws.{begins-or, one-begins}
+use Rattle.text.proofs.Readlaws.{begins-or, one-begins}
 use borrow.Author.Needs.{needs}
 use Rattle.fields.proofs.row_at.Statement.{statement}
 use Rattle.fields.proofs.row_at.Tie as tie

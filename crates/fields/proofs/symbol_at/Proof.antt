@@ -1,5 +1,5 @@
 use Rattle.text.specs.Bytes.{isSymbol}
-use Rattle.fields.proofs.Piecelaws.{begins-nil, begins-cons}
+use Rattle.text.proofs.Readlaws.{begins-nil, begins-cons}
 use borrow.Author.Needs.{needs}
 use Rattle.fields.proofs.symbol_at.Statement.{statement}
 use Rattle.fields.proofs.symbol_at.Tie as tie

@@ -1,5 +1,5 @@
 use Rattle.grammar.specs.Rows.{writtenOf}
-use Rattle.fields.proofs.Piecelaws.{said-nil, said-some, said-none}
+use Rattle.text.proofs.Readlaws.{said-nil, said-some, said-none}
 use borrow.Author.Needs.{needs}
 use Rattle.fields.proofs.token_at.Statement.{statement}
 use Rattle.fields.proofs.token_at.Tie as tie

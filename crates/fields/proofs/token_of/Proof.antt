@@ -1,5 +1,5 @@
 use borrow.Author.Tests.{ne-eqb}
-use Rattle.fields.proofs.Sum.{cases}
+use Rattle.text.proofs.Sum.{cases}
 use mathlib.Core.Logic.{inl, inr}
 use Rattle.fields.proofs.token_of.Statement.{statement}
 use Rattle.fields.proofs.token_of.Tie as tie

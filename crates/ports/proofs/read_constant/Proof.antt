@@ -3,8 +3,7 @@ use Rattle.ports.specs.Heads.{digit}
 use Rattle.grammar.specs.Header.{constant}
 use Rattle.text.specs.Reader.{_>>=_, if}
 use Rattle.text.proofs.Blanklaws.{one-room}
-use Rattle.text.proofs.Readlaws.{mark-at}
-use Rattle.ports.proofs.Steps.{byte-two, ahead-one, ahead-none}
+use Rattle.text.proofs.Readlaws.{mark-at, byte-two, ahead-one, ahead-none}
 use lib.ListN.{drop}
 use borrow.Author.Tests.{not-true, not-false}
 use Prim.Native.Nat.{_+_, _-_}

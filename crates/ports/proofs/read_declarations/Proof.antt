@@ -2,6 +2,7 @@ use Rattle.ports.specs.Heads.{portAt, portsOf, down, headWith}
 use Rattle.grammar.specs.Header.{declarations, declarationRoom}
 use Rattle.text.specs.Reader.{bind, check}
 use Rattle.ports.proofs.Steps.{turn-fault, turn-output, turn-reg, turn-input, turn-initial, turn-table, turn-none, word-table}
+use Rattle.base.specs.Limits.{inputLimit}
 use Rattle.ports.proofs.Keeping.{output-test, output-raise, all-up}
 use Rattle.ports.proofs.Flags.{down-fresh}
 use mathlib.Core.Bool.{false}
@@ -15,7 +16,7 @@ use Rattle.ports.proofs.read_declarations.Statement.{statement}
 use Rattle.ports.proofs.read_declarations.Tie as tie
 
 abbrev Inv-loop : tie.InvT-loop
-Inv-loop text at n starts ends flags₀ reg₀ i₀ room₀ flags reg i room = (bind (declarations declarationRoom (portAt text starts ends 0) (portsOf text starts ends (n + 1)) false at (drop at text)) (headWith n) ≡ bind (declarations room (portAt text starts ends 0) (down (portsOf text starts ends (n + 1)) flags) reg i (drop i text)) (headWith n)) × (length flags ≡ 10)
+Inv-loop text at n starts ends flags₀ reg₀ i₀ room₀ flags reg i room = (bind (declarations declarationRoom (portAt text starts ends 0) (portsOf text starts ends (n + 1)) false at (drop at text)) (headWith n) ≡ bind (declarations room (portAt text starts ends 0) (down (portsOf text starts ends (n + 1)) flags) reg i (drop i text)) (headWith n)) × (length flags ≡ inputLimit + 1)
 
 abbrev μ-loop : tie.MeasureT-loop
 μ-loop text at n starts ends flags₀ reg₀ i₀ room₀ flags reg i room = room
@@ -28,7 +29,7 @@ read-declarations-spec =
     Inv-loop
     μ-loop
     (λ c. omega arith)
-    (λ c. (rw (down-fresh (portsOf (now (c .before .args .text)) (c .before .args .t3) (c .before .args .t4) (c .before .args .n + 1)) 10), refl))
+    (λ c. (rw (down-fresh (portsOf (now (c .before .args .text)) (c .before .args .t3) (c .before .args .t4) (c .before .args .n + 1)) (inputLimit + 1)), refl))
     (λ c κs. search needs)
     (λ c κs. search needs)
     (λ c. search needs)

@@ -1,10 +1,11 @@
 use Rattle.value.specs.Value.{valueOf}
 use Rattle.text.specs.Reader.{_>>=_}
 use Rattle.ports.specs.Heads.{digit}
-use Rattle.ports.proofs.Steps.{byte-nil, byte-cons, digitByte}
+use Rattle.ports.proofs.Steps.{digitByte}
+use Rattle.text.proofs.Readlaws.{byte-nil, byte-cons}
 use denote.Ref.{now}
 use borrow.Author.Tests.{ne-eqb}
-use Rattle.ports.proofs.Sum.{cases}
+use Rattle.text.proofs.Sum.{cases}
 use mathlib.Core.Logic.{inl, inr}
 use borrow.Author.Needs.{needs}
 use Rattle.ports.proofs.read_digit.Statement.{statement}
