@@ -271,19 +271,6 @@ module _ (f : List ℕ) (hs : List Handed) (k : Kept f hs) (rest : List ℕ) whe
           bytes = ap (λ (o : Outcome). o .bytes) at-place ∙ rw (t .0, t .1);
         }
 
-    by-refusal : (x y : Bool) (n p : ℕ) → cond x (cond y (written buffer (length f) place line) (refusal buffer 15 place)) (refusal buffer 14 0) .answer ≡ append.Refused n p →
-        cond x (cond y (written buffer (length f) place line) (refusal buffer 15 place)) (refusal buffer 14 0) .bytes ≡ buffer
-    by-refusal true true n p e = absurd (let z : _≡_ {A = ℕ} 0 1 = cc in omega arith)
-    by-refusal true false n p e = refl
-    by-refusal false y n p e = refl
-
-    -- a refused append changes no byte
-    pub kept-refused : (n p : ℕ) → appended buffer (length f) h .answer ≡ append.Refused n p → appended buffer (length f) h .bytes ≡ buffer
-    unfolding appendedAt
-    kept-refused n p e =
-        ap (λ (o : Outcome). o .bytes) at-place
-        ∙ by-refusal (fitsLayout h) (leb (place + length line) (limitOf buffer)) n p (sym (ap (λ (o : Outcome). o .answer) at-place) ∙ e)
-
     abbrev body : List ℕ
     body = entry place (verdictOf h)
 

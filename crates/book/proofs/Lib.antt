@@ -4,3 +4,4 @@ pub mod Appending
 pub mod Kept
 pub mod Runs
 pub mod Cases
+pub mod Once

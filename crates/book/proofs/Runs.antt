@@ -15,7 +15,8 @@ use Rattle.book.specs.declared.Entry.{Entry}
 use Rattle.book.specs.declared.Fetched.the-variants as fetch
 use Rattle.book.specs.Book.{opened, appended, fetched}
 use Rattle.book.specs.Runs.{bookOf, AllFit, none-left, Event, append, append-refused, cut-before, cut-after, reopening, Run, begin, appends, refuses, cuts-before, cuts-after, reopens, stored, asked, cuts, heldIn}
-use Rattle.book.proofs.Kept.{Kept, kept-book, place-good, found, kept-opened, kept-fetched, kept-refused, kept-whole, kept-more, kept-cut}
+use Rattle.book.proofs.Once.{refused-same}
+use Rattle.book.proofs.Kept.{Kept, kept-book, place-good, found, kept-opened, kept-fetched, kept-whole, kept-more, kept-cut}
 
 -- what a run keeps up
 pub run-kept : {base : List Handed} {es : List Event} {f : List ℕ} → AllFit base → length (bookOf base) ≤ bookLimit → Run base es f → Kept f (stored base es)
@@ -25,7 +26,7 @@ run-kept {base} v l (appends {es} {f} h rest m r e) =
     rw (kept-whole f (stored base es) k rest h m e) (kept-more f (stored base es) k rest h m e)
 run-kept {base} v l (refuses {es} {f} h rest n p r e) =
     let k : Kept f (stored base es) = run-kept v l r in
-    rw (kept-refused f (stored base es) k rest h n p e, take-append-seam f rest) k
+    rw (refused-same (f ++ rest) (length f) h n p e, take-append-seam f rest) k
 run-kept {base} v l (cuts-before {es} {f} h rest m g r e c) =
     let k : Kept f (stored base es) = run-kept v l r in
     kept-cut f (stored base es) k rest h m g e (rw (place-good f (stored base es) k rest) at c)

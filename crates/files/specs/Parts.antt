@@ -16,7 +16,7 @@ abbrev pub join : ℕ → List (List ℕ) → List ℕ
 join c [] = []
 join c (b ∷ bs) = b ++ (c ∷ join c bs)
 
--- the parts, and what follows the last c; `open` is the part so far
+-- the parts, and what follows the last c
 abbrev pub splitFrom : ℕ → List ℕ → List ℕ → List (List ℕ) × List ℕ
 splitFrom c so-far [] = ([], so-far)
 splitFrom c so-far (x ∷ l) =
