@@ -6,8 +6,6 @@ use mathlib.Core.List.{List, [], _∷_}
 use native.Mathlib.Decide.{ℕ-discrete}
 use native.Mathlib.Omega.{arith}
 use lib.ListN.{length, getD}
-use lib.Seq.{set-set}
-use borrow.Author.Tests.{eq-eqb}
 use Rattle.base.proofs.Search.{every-same, first-same}
 use Rattle.value.specs.declared.Ternary.{Ternary}
 use Rattle.value.specs.declared.Ternary.the-variants.{V0, Vx}
@@ -17,26 +15,19 @@ use Rattle.table.specs.Table.{Row, Table, rowAt, symbolAt}
 use Rattle.table.specs.Match.{fieldOf, columnsMatch, rowMatches}
 use Rattle.orders.specs.Vectors.{at, put}
 use Rattle.orders.specs.Order.{Laws, evalOrder}
-use Rattle.orders.proofs.Places.{at-other, at-same, at-step, put-at, length-put}
+use Rattle.orders.proofs.Places.{at-other, at-same, at-step, put-back, length-put}
+use Rattle.orders.proofs.Candidates.{same-of}
 use Rattle.evaluation.specs.Step.{rowFor, answerOr, answerOf, stepOf}
-
-same-value : (x y : Ternary) → x ≡ y → sameValue x y ≡ true
-unfolding sameValue
-same-value x y e = eq-eqb (rankOf x) (rankOf y) (ap rankOf e)
 
 -- an unchanged input leaves the output, and only the considered input's current value counts
 pub laws : (t : Table) (n : ℕ) → Laws n (stepOf t)
 unfolding stepOf
 laws t n = record {
-  still = λ {prev} {cur} j {old} g h e. rw (same-value (at prev j) (at cur j) e);
+  still = λ {prev} {cur} j {old} g h e. rw (same-of (at prev j) (at cur j) e);
   own = λ {prev} {cur} {d} j g h k e. rw e;
 }
 
 -- input j arrives from x at its value in v, where the others stand too
-put-back : (v : List Ternary) (j : ℕ) (x : Ternary) → put (put v j x) j (at v j) ≡ v
-put-back v zero x = refl
-put-back v (suc k) x = set-set v k x (getD v k V0) ∙ put-at v (suc k)
-
 pub step-arrives : (t : Table) (v : List Ternary) (j : ℕ) (x old : Ternary) → 1 ≤ j → j ≤ length v →
     stepOf t (put v j x) v j old ≡ cond (sameValue x (at v j)) old (answerOf t v j x old)
 unfolding stepOf

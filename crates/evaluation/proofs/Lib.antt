@@ -1,5 +1,6 @@
 pub mod Laws
 pub mod Bridge
+pub mod Choice
 pub mod Saying
 pub mod Answering
 pub mod Checked

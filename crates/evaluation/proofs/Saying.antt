@@ -55,7 +55,7 @@ padded-alike v h = record { same = go }
         (λ (g : inputLimit ≤ k). listed-past (λ (k : ℕ). getD v k V0) inputLimit k V0 g ∙ sym (List·getD-eq-default v V0 {n = k} (omega arith)))
         (lt-or-ge k inputLimit)
 
-neither : (a b : Bool) → (a || b) ≡ false → (a ≡ false) × (b ≡ false)
+pub neither : (a b : Bool) → (a || b) ≡ false → (a ≡ false) × (b ≡ false)
 neither false b e = (refl, e)
 neither true b e = clash e
 

@@ -178,13 +178,8 @@ pub fn follow(
     }
     let j = base::wide(order[0]);
     let output = step(a, prev, cur, j, old);
-    follow(
-        a,
-        with_value(prev, j, value_of(cur, j)),
-        cur,
-        output,
-        &order[1..],
-    )
+    let next = with_value(prev, j, value_of(cur, j));
+    follow(a, next, cur, output, &order[1..])
 }
 
 fn is_value(b: u8) -> bool

@@ -20,21 +20,13 @@ use Rattle.value.specs.Value.{rankOf, valueOf, sameValue}
 use Rattle.orders.specs.Order.{Step, Laws, Every}
 use Rattle.orders.specs.Verdict.{candidates, firstNow, secondNow, firstOutput, secondOutput, previousAt, currentAt, Disagrees, First}
 use Rattle.orders.proofs.Places.{vector-put, every-family}
-use Rattle.orders.proofs.Candidates.{value-rank, rank-same, vector-number}
+use Rattle.orders.proofs.Candidates.{value-rank, same-of, of-same, vector-number}
 use Rattle.orders.proofs.Answers.{judged-iff}
 use Rattle.memo.specs.Memo.{Memo}
 use Rattle.verdict.specs.declared.Finding.the-variants.{Independent, Dependent}
 use Rattle.judge.specs.Search.{differsIn, firstIn, pairDiffers, pairs, firstPair, outputOf, otherOf, witnessIn, findingIn, yesIn, squareIn}
 use Rattle.judge.specs.Judge.{Witnesses, RightFinding, disagree, pairYes, squareOf}
 use Rattle.judge.proofs.Ranks.{output-is, other-is, differs-is}
-
-pub same-of : (x y : Ternary) → x ≡ y → sameValue x y ≡ true
-unfolding sameValue
-same-of x y e = eq-eqb (rankOf x) (rankOf y) (ap rankOf e)
-
-pub of-same : (x y : Ternary) → sameValue x y ≡ true → x ≡ y
-unfolding sameValue
-of-same x y e = rank-same x y (eqb-true (rankOf x) (rankOf y) e)
 
 -- what a pair that differs tells
 pub record Told (f : List ℕ) (n i j : ℕ) : Type 0 where

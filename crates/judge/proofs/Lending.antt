@@ -3,9 +3,8 @@ use Prim.Native.Nat.{ℕ, _*_, _^_, _≤_}
 use mathlib.Core.Path.{_≡_, sym, _∙_}
 use mathlib.Core.Bool.{Bool, true, false}
 use mathlib.Core.List.{List}
-use native.Mathlib.Nat.{mul-le-mul, pow-le-pow-right}
+use native.Mathlib.Nat.{mul-le-mul}
 use native.Mathlib.Omega.{arith}
-use lib.Dec.{lit<}
 use Rattle.base.specs.Limits.{inputLimit}
 use Rattle.table.specs.Table.{Table}
 use Rattle.table.specs.Area.{decode}
@@ -13,6 +12,7 @@ use Rattle.formed.specs.Tests.{wellFormed}
 use Rattle.formed.proofs.Exact.{formed-valid}
 use Rattle.evaluation.specs.Step.{stepOf}
 use Rattle.evaluation.proofs.Laws.{laws}
+use Rattle.orders.proofs.Digits.{power-le}
 use Rattle.memo.specs.Memo.{Memo}
 use Rattle.memo.specs.Rows.{Small}
 use Rattle.verdict.specs.declared.Finding.{Finding}
@@ -32,4 +32,4 @@ squared t f n r e m h = h ∙ rw e (square-right (laws t (t .inputs)) m)
 
 -- room for k inputs is room for fewer
 pub room-for : (n k size len : ℕ) → n ≤ k → k * 3 ^ k * 9 ≡ size → len ≡ size → n * 3 ^ n * 9 ≤ len
-room-for n k size len h e l = omega (arith, mul-le-mul {n₁ = n} {m₁ = 3 ^ n} {n₂ = k} {m₂ = 3 ^ k} h (pow-le-pow-right {n = 3} (lit< tt) {i = n} {j = k} h))
+room-for n k size len h e l = omega (arith, mul-le-mul {n₁ = n} {m₁ = 3 ^ n} {n₂ = k} {m₂ = 3 ^ k} h (power-le n k h))

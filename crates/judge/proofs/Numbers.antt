@@ -4,25 +4,18 @@ use mathlib.Core.Path.{_≡_, refl, sym, ap, _∙_}
 use mathlib.Core.Bool.{Bool, true, false}
 use mathlib.Core.List.{List}
 use mathlib.Core.Logic.{⊎-elim}
-use native.Mathlib.Nat.{mul-le-mul, pow-le-pow-right, pow-suc}
+use native.Mathlib.Nat.{mul-le-mul}
 use native.Mathlib.Numerals.{add-one}
 use native.Mathlib.Omega.{arith}
-use lib.Dec.{lit<}
 use Rattle.base.specs.Search.{first}
 use Rattle.base.proofs.Search.{first-below, first-found, first-none, first-holds}
 use Rattle.base.proofs.Bools.{lt-or-ge}
+use Rattle.orders.proofs.Digits.{power-pos, power-le}
 use Rattle.judge.specs.Search.{weight, differsAt, differsIn, firstIn, Numbers}
 
 -- a value's number times a weight
 pub product-low : (x w : ℕ) → x < 3 → w ≤ 6561 → x * w ≤ 13122
 product-low x w h l = mul-le-mul {n₁ = x} {m₁ = w} {n₂ = 2} {m₂ = 6561} (omega arith) l
-
-power-pos : (m : ℕ) → 0 < 3 ^ m
-power-pos zero = omega arith
-power-pos (suc m) = rw (pow-suc 3 m) (omega (arith, power-pos m))
-
-power-le : (m k : ℕ) → m ≤ k → 3 ^ m ≤ 3 ^ k
-power-le m k h = pow-le-pow-right {n = 3} (lit< tt) {i = m} {j = k} h
 
 block-low : (n i m : ℕ) → n ≤ 9 → i < n → m ≡ 3 ^ n → i * m ≤ 200000
 block-low n i m h l e = omega (arith, mul-le-mul {n₁ = i} {m₁ = m} {n₂ = 8} {m₂ = 19683} (omega arith) (rw e (power-le n 9 h)))

@@ -7,7 +7,6 @@ use mathlib.Core.List.{List, [], _∷_}
 use native.Mathlib.Omega.{arith}
 use lib.Dec.{eqb}
 use lib.ListN.{length, getD}
-use lib.Seq.{set-set}
 use Rattle.value.specs.declared.Ternary.{Ternary}
 use Rattle.value.specs.declared.Ternary.the-variants.{V0}
 use Rattle.value.specs.Value.{rankOf, valueOf, sameValue}
@@ -15,16 +14,12 @@ use Rattle.orders.specs.Vectors.{at, put, Vector, vectorOf}
 use Rattle.orders.specs.Order.{Step, Laws, evalOrder}
 use Rattle.orders.specs.Pairs.{pairOrder}
 use Rattle.orders.specs.Verdict.{previousAt, firstNow, secondNow, oldAt, currentAt, firstOutput, secondOutput}
-use Rattle.orders.proofs.Places.{at-other, at-same, put-at, put-comm, vector-put, only-two}
+use Rattle.orders.proofs.Places.{at-other, at-same, put-back, put-comm, vector-put, only-two}
 use Rattle.orders.proofs.Pairs.{tail-idle}
 use Rattle.orders.proofs.Candidates.{value-rank, rank-value, rank-low, vector-number}
 use Rattle.orders.proofs.Digits as digits
 use Rattle.memo.specs.Memo.{slot, kept, Memo}
 use Rattle.judge.specs.Search.{twice, weight, moved, firstRank, secondRank, differsAt, differsIn, outputOf, otherOf}
-
-put-back : (v : List Ternary) (j : ℕ) (x : Ternary) → put (put v j x) j (at v j) ≡ v
-put-back v zero x = refl
-put-back v (suc k) x = set-set v k x (getD v k V0) ∙ put-at v (suc k)
 
 module _ {n : ℕ} {phi : Step} (L : Laws n phi) {f : List ℕ} (M : Memo n phi f) where
   -- one step: the input of column k goes from q, where it had value number x, to vector number p

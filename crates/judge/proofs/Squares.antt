@@ -15,10 +15,10 @@ use Rattle.orders.specs.Order.{Step, Every}
 use Rattle.orders.specs.Pairs.{PairAgrees, Yes}
 use Rattle.orders.specs.Verdict.{candidates, firstNow, secondNow, firstOutput, secondOutput, Disagrees}
 use Rattle.orders.proofs.Places.{vector-put, every-family}
-use Rattle.orders.proofs.Candidates.{vector-number, pair-iff}
+use Rattle.orders.proofs.Candidates.{same-of, of-same, vector-number, pair-iff}
+use Rattle.evaluation.proofs.Saying.{neither}
 use Rattle.value.specs.Value.{sameValue}
 use Rattle.judge.specs.Judge.{disagree, pairYes}
-use Rattle.judge.proofs.Findings.{same-of, of-same}
 
 some-false : (f : ℕ → Bool) (n k : ℕ) → some n f ≡ false → k < n → (b : Bool) → f k ≡ b → b ≡ false
 some-false f n k e h true q = clash (sym (some-at f n k h q) ∙ e)
@@ -55,7 +55,3 @@ module _ (n : ℕ) (phi : Step) where
     λ e. let q = neither _ _ (not-true _ e) in (half i j lj .0 (q .0), half j i li .0 (q .1)),
     λ y. rw (half i j lj .1 (y .0), half j i li .1 (y .1)),
   )
-    where
-      neither : (a b : Bool) → (a || b) ≡ false → (a ≡ false) × (b ≡ false)
-      neither false b e = (refl, e)
-      neither true b e = clash e

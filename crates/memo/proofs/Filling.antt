@@ -4,15 +4,14 @@ use mathlib.Core.Path.{_≡_, refl, sym, ap, _∙_}
 use mathlib.Core.Logic.{⊎-elim}
 use mathlib.Core.List.{List}
 use native.Mathlib.Decide.{decLt}
-use native.Mathlib.Nat.{suc-mul, mul-le-mul-right, pow-suc, pow-le-pow-right, eq-or-lt-of-le, le-of-suc-le-suc}
+use native.Mathlib.Nat.{suc-mul, mul-le-mul-right, pow-suc, eq-or-lt-of-le, le-of-suc-le-suc}
 use native.Mathlib.Numerals.{add-one}
 use native.Mathlib.Omega.{arith}
-use lib.Dec.{lit<}
 use lib.ListN.{length, getD}
 use Rattle.base.proofs.Patched.{Patched}
 use Rattle.table.specs.Table.{Table}
 use Rattle.orders.specs.Order.{Step}
-use Rattle.orders.proofs.Digits.{digitOf, digit-is}
+use Rattle.orders.proofs.Digits.{digitOf, digit-is, power-pos, power-le}
 use Rattle.evaluation.specs.Step.{stepOf}
 use Rattle.memo.specs.Memo.{slot, kept, Kept, Memo}
 use Rattle.memo.specs.Rows.{cells, allRows, restOf, entryOf, Small, Ready}
@@ -79,18 +78,14 @@ pub record Fits (n j b m w len : ℕ) : Type 0 where
   pub end : (b + m) * 9 ≤ len
   pub weight : 0 < w
 
-power-pos : (m : ℕ) → 0 < 3 ^ m
-power-pos zero = omega arith
-power-pos (suc m) = rw (pow-suc 3 m) (omega (arith, power-pos m))
-
 pub fits : (t : Table) (s : List (List ℕ)) (all n j b m w : ℕ) (f : List ℕ) → Ready t s all n j b m w → n * 3 ^ n * 9 ≤ length f → Fits n j b m w (length f)
 fits t s all n j b m w f r h = record {
   end = omega (arith, r .block, r .vectors, blocks-le j n (3 ^ n) (r .within));
   weight = rw (r .weight) (power-pos (n - suc j));
 }
 
-pub power-le : (n : ℕ) → n ≤ 9 → 3 ^ n ≤ 19683
-power-le n h = pow-le-pow-right {n = 3} (lit< tt) {i = n} {j = 9} h
+pub nine-le : (n : ℕ) → n ≤ 9 → 3 ^ n ≤ 19683
+nine-le n h = power-le n 9 h
 
 -- the weight of the next input
 pub third : (n j w : ℕ) → j < n → w ≡ 3 ^ (n - j) → w / 3 ≡ 3 ^ (n - suc j)

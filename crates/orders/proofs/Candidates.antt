@@ -7,10 +7,13 @@ use native.Mathlib.Nat.{pow-suc, zero-add, add-zero}
 use native.Mathlib.Decide.{ℕ-discrete}
 use native.Mathlib.Omega.{arith}
 use lib.ListN.{length, length-append}
-use Rattle.value.specs.Value.{rankOf, valueOf}
+use lib.Dec.{eqb}
+use borrow.Author.Tests.{eq-eqb, eqb-true}
+use mathlib.Core.Bool.{true}
+use Rattle.value.specs.Value.{rankOf, valueOf, sameValue}
 use Rattle.value.specs.declared.Ternary.{Ternary}
 use Rattle.value.specs.declared.Ternary.the-variants.{V0, V1, Vx}
-use Rattle.orders.specs.Vectors.{at, put, Vector, vectorOf}
+use Rattle.orders.specs.Vectors.{at, put, Vector, vectorOf, numberFrom}
 use Rattle.orders.specs.Order.{Step, Laws, evalOrder, Family}
 use Rattle.orders.specs.Pairs.{pairOrder, PairAgrees}
 use Rattle.orders.specs.Verdict.{candidates, previousAt, firstNow, secondNow, oldAt, currentAt, firstOutput, secondOutput, Disagrees}
@@ -39,17 +42,21 @@ rank-low Vx = omega arith
 pub rank-same : (x y : Ternary) → rankOf x ≡ rankOf y → x ≡ y
 rank-same x y e = sym (value-rank x) ∙ ap valueOf e ∙ value-rank y
 
+-- the test of equal values
+pub same-of : (x y : Ternary) → x ≡ y → sameValue x y ≡ true
+unfolding sameValue
+same-of x y e = eq-eqb (rankOf x) (rankOf y) (ap rankOf e)
+
+pub of-same : (x y : Ternary) → sameValue x y ≡ true → x ≡ y
+unfolding sameValue
+of-same x y e = rank-same x y (eqb-true (rankOf x) (rankOf y) e)
+
 pub decide : (x y : Ternary) → Dec (x ≡ y)
 decide x y = go (ℕ-discrete (rankOf x) (rankOf y))
   where
     go : Dec (rankOf x ≡ rankOf y) → Dec (x ≡ y)
     go (yes e) = yes (rank-same x y e)
     go (no ne) = no (λ e. ne (ap rankOf e))
-
--- the number of a vector whose values follow those of the vector number acc
-unfoldable pub numberFrom : ℕ → List Ternary → ℕ
-numberFrom acc [] = acc
-numberFrom acc (x ∷ v) = numberFrom (acc * 3 + rankOf x) v
 
 vector-from : (m acc : ℕ) (v : List Ternary) → vectorOf (length v + m) (numberFrom acc v) ≡ vectorOf m acc ++ v
 unfolding numberFrom vectorOf

@@ -3,8 +3,9 @@ use Prim.Native.Nat.{ℕ, zero, suc, _+_, _-_, _*_, _/_, _%_, _^_, _<_, _≤_}
 use mathlib.Core.Path.{_≡_, refl, sym, ap, _∙_}
 use mathlib.Core.Logic.{⊎-elim}
 use mathlib.Core.List.{List, [], _∷_, _++_}
-use native.Mathlib.Nat.{pow-suc, mul-comm, mul-assoc, div-div-eq-div-mul, div-one, eq-or-lt-of-le}
+use native.Mathlib.Nat.{pow-suc, mul-comm, mul-assoc, div-div-eq-div-mul, div-one, eq-or-lt-of-le, pow-le-pow-right}
 use native.Mathlib.Omega.{arith}
+use lib.Dec.{lit<}
 use lib.ListN.{length, getD, set, List·getD-append}
 use lib.Seq.{getD-at, set-at, set-append-left}
 use Rattle.value.specs.Value.{valueOf}
@@ -29,6 +30,13 @@ digit-is v (suc m) = rw (digit-is (v / 3) m, div-div-eq-div-mul v 3 (3 ^ m), pow
 
 pub digit-low : (v m : ℕ) → digitOf v m < 3
 digit-low v m = rw (digit-is v m) (omega arith)
+
+pub power-pos : (m : ℕ) → 0 < 3 ^ m
+power-pos zero = omega arith
+power-pos (suc m) = rw (pow-suc 3 m) (omega (arith, power-pos m))
+
+pub power-le : (m k : ℕ) → m ≤ k → 3 ^ m ≤ 3 ^ k
+power-le m k h = pow-le-pow-right {n = 3} (lit< tt) {i = m} {j = k} h
 
 thrice : (a w : ℕ) → a * (w * 3) ≡ a * w * 3
 thrice a w = sym (mul-assoc a w 3)

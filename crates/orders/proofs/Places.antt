@@ -6,7 +6,7 @@ use Prim.Native.Nat.{ℕ, zero, suc, _≤_, _<_}
 use native.Mathlib.Decide.{ℕ-discrete, decLt}
 use native.Mathlib.Omega.{arith}
 use lib.ListN.{length, getD, set, length-set, List·getD-eq-default}
-use lib.Seq.{getD-set-same, getD-set-other, set-getD, set-comm, set-out, ext-getD}
+use lib.Seq.{getD-set-same, getD-set-other, set-getD, set-set, set-comm, set-out, ext-getD}
 use Rattle.value.specs.declared.Ternary.{Ternary}
 use Rattle.value.specs.declared.Ternary.the-variants.{V0}
 use Rattle.orders.specs.Vectors.{at, put, Vector}
@@ -39,6 +39,11 @@ at-step v w (suc k) e = go (decLt k (length v))
 pub put-at : (v : List Ternary) (k : ℕ) → put v k (at v k) ≡ v
 put-at v zero = refl
 put-at v (suc k) = set-getD v k V0
+
+-- a value put, and the earlier one put back
+pub put-back : (v : List Ternary) (j : ℕ) (x : Ternary) → put (put v j x) j (at v j) ≡ v
+put-back v zero x = refl
+put-back v (suc k) x = set-set v k x (getD v k V0) ∙ put-at v (suc k)
 
 pub put-comm : (v : List Ternary) (i j : ℕ) (x y : Ternary) → i ≢ j → put (put v i x) j y ≡ put (put v j y) i x
 put-comm v zero zero x y h = refl

@@ -1,9 +1,9 @@
 -- Vectors: one value for each input. Inputs are numbered from 1.
-use Prim.Native.Nat.{ℕ, zero, suc, _/_, _%_}
+use Prim.Native.Nat.{ℕ, zero, suc, _+_, _*_, _/_, _%_}
 use mathlib.Core.Path.{_≡_}
 use mathlib.Core.List.{List, [], _∷_, _++_}
 use lib.ListN.{length, getD, set}
-use Rattle.value.specs.Value.{valueOf}
+use Rattle.value.specs.Value.{rankOf, valueOf}
 use Rattle.value.specs.declared.Ternary.{Ternary}
 use Rattle.value.specs.declared.Ternary.the-variants.{V0}
 
@@ -24,3 +24,8 @@ pub record Vector (n : ℕ) (v : List Ternary) : Type 0 where
 unfoldable pub vectorOf : ℕ → ℕ → List Ternary
 vectorOf zero c = []
 vectorOf (suc m) c = vectorOf m (c / 3) ++ (valueOf (c % 3) ∷ [])
+
+-- the number of a vector whose values follow those of vector number c
+unfoldable pub numberFrom : ℕ → List Ternary → ℕ
+numberFrom c [] = c
+numberFrom c (x ∷ v) = numberFrom (c * 3 + rankOf x) v

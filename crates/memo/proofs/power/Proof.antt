@@ -3,7 +3,7 @@ use mathlib.Core.Path.{_≡_, refl}
 use native.Mathlib.Nat.{pow-suc}
 use native.Mathlib.Numerals.{add-one}
 use native.Mathlib.Omega.{arith}
-use Rattle.memo.proofs.Filling.{power-le}
+use Rattle.memo.proofs.Filling.{nine-le}
 use Rattle.memo.proofs.power.Statement.{statement}
 use Rattle.memo.proofs.power.Tie as tie
 
@@ -20,7 +20,7 @@ power-spec =
     Inv-loop
     μ-loop
     (λ c. (omega arith, refl))
-    (λ c. omega (arith, power-le (c .before .loop .k) (omega arith)))
+    (λ c. omega (arith, nine-le (c .before .loop .k) (omega arith)))
     (λ c. omega arith)
     (λ c. omega arith)
     (λ c. (omega arith, rw (add-one, pow-suc, c .before .loop .inv .1)))
