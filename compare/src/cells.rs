@@ -9,7 +9,7 @@ use second::reading::{find, Found};
 use std::{fs, io};
 
 /// Modules and what else surrounds the primitives is dropped. The lister's program may be left away.
-pub fn compare(files: &[&str], program: Option<&[&str]>) -> io::Result<Outcome> {
+pub fn compare(files: &[&str], program: Option<&[&str]>, details: bool) -> io::Result<Outcome> {
     let texts: io::Result<Vec<Vec<u8>>> = files.iter().map(fs::read).collect();
     let mut stats = Stats::default();
     for (file, text) in files.iter().zip(texts?) {
@@ -24,7 +24,9 @@ pub fn compare(files: &[&str], program: Option<&[&str]>) -> io::Result<Outcome> 
                 Err(mismatch) => return Ok(Err(mismatch)),
             }
         }
-        println!("cells: {file}: {}", answers(&primitives));
+        if details {
+            println!("cells: {file}: {}", answers(&primitives));
+        }
     }
     Ok(Ok(stats))
 }

@@ -25,6 +25,7 @@ compare published                    the primitives that the sources print
 compare cells FILES [-- LISTER..]    the primitives of cell libraries, also by the lister's program
 compare lister LISTER..              the lister's program, given as the words that run it
 compare icarus                       single steps against Icarus Verilog
+compare --quiet ..                   the same, with no line for each primitive
 compare --help                       print this
 ";
 
@@ -40,7 +41,11 @@ const ALL: [Comparison; 6] = [
 fn main() -> ExitCode {
     let arguments: Vec<String> = std::env::args().skip(1).collect();
     let words: Vec<&str> = arguments.iter().map(String::as_str).collect();
-    match run(&words) {
+    let agree = match words[..] {
+        ["--quiet", ref rest @ ..] => run(rest, false),
+        ref all => run(all, true),
+    };
+    match agree {
         Some(true) => ExitCode::SUCCESS,
         Some(false) => ExitCode::FAILURE,
         None => {
@@ -51,16 +56,16 @@ fn main() -> ExitCode {
 }
 
 /// Whether all agree; nothing if the words make no command.
-fn run(words: &[&str]) -> Option<bool> {
+fn run(words: &[&str], details: bool) -> Option<bool> {
     match *words {
         ["--help"] => {
             print!("{HELP}");
             Some(true)
         }
-        ["all"] => Some(ALL.iter().all(report::run) && published()),
-        ["published"] => Some(published()),
+        ["all"] => Some(ALL.iter().all(report::run) && published(details)),
+        ["published"] => Some(published(details)),
         ["icarus"] => Some(report::once("icarus", icarus::compare)),
-        ["cells", ref rest @ ..] => cells(rest),
+        ["cells", ref rest @ ..] => cells(rest, details),
         ["lister", ref program @ ..] if !program.is_empty() => {
             Some(report::once("lister", || Ok(lister::compare(program))))
         }
@@ -72,17 +77,18 @@ fn run(words: &[&str]) -> Option<bool> {
     }
 }
 
-fn published() -> bool {
-    report::once("published", || Ok(published::compare()))
+fn published(details: bool) -> bool {
+    report::once("published", || Ok(published::compare(details)))
 }
 
-fn cells(rest: &[&str]) -> Option<bool> {
+fn cells(rest: &[&str], details: bool) -> Option<bool> {
     let mut halves = rest.split(|word| *word == "--");
     let (files, program) = (halves.next()?, halves.next());
     if files.is_empty() || program.is_some_and(<[&str]>::is_empty) {
         return None;
     }
-    Some(report::once("cells", || cells::compare(files, program)))
+    let compare = || cells::compare(files, program, details);
+    Some(report::once("cells", compare))
 }
 
 fn some_parts(comparison: &Comparison, rest: &[&str]) -> Option<bool> {

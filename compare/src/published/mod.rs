@@ -10,11 +10,11 @@ use second::compare::judging::compare_table;
 use second::compare::reading::compare_text;
 use second::compare::{same, Mismatch, Outcome, Stats};
 use second::evaluation::evaluate;
-use second::judge::{fast, Square};
+use second::judge::{fast, Judged, Square};
 use second::reading::{find, Found};
 use second::table::Table;
 
-pub fn compare() -> Outcome {
+pub fn compare(details: bool) -> Outcome {
     let mut stats = Stats::default();
     for figure in &FIGURES {
         stats.add(compare_text(figure.text.as_bytes(), &verified::read)?);
@@ -24,16 +24,19 @@ pub fn compare() -> Outcome {
         for claim in figure.claims {
             stats.note(hold(figure, &table, &judged.square, claim)?);
         }
-        let pairs = disagreeing(&judged.square);
-        let verdict = Verdict::of(&table, judged.finding);
-        let line = entry::fields(&verdict).expect("a judged table fits the layout");
-        println!(
-            "published: {}: {}; pairs that disagree: {pairs}",
-            figure.source,
-            String::from_utf8_lossy(&line)
-        );
+        if details {
+            println!("published: {}: {}", figure.source, line(&table, judged));
+        }
     }
     Ok(stats)
+}
+
+fn line(table: &Table, judged: Judged) -> String {
+    let pairs = disagreeing(&judged.square);
+    let verdict = Verdict::of(table, judged.finding);
+    let line = entry::fields(&verdict).expect("a judged table fits the layout");
+    let line = String::from_utf8_lossy(&line);
+    format!("{line}; pairs that disagree: {pairs}")
 }
 
 fn table(text: &str) -> Table {
