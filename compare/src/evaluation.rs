@@ -4,11 +4,9 @@ use crate::report::{part, Comparison};
 use crate::verified;
 use second::compare::evaluation::compare_evaluations;
 
-const CALLS: usize = 12;
-
 pub const COMPARISON: Comparison = Comparison {
     name: "evaluation",
-    parts: &[part("orders", 9_000, |seed, tables| {
-        compare_evaluations(seed, tables, CALLS, &verified::evaluate)
+    parts: &[part("orders", 15_000, |seed, tables| {
+        compare_evaluations(seed, tables, &verified::evaluate)
     })],
 };

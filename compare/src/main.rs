@@ -3,9 +3,13 @@
 
 mod areas;
 mod book;
+mod cells;
 mod evaluation;
+mod icarus;
 mod judging;
+mod lister;
 mod matching;
+mod published;
 mod reading;
 mod report;
 mod verified;
@@ -14,10 +18,15 @@ use report::{Comparison, Part};
 use std::process::ExitCode;
 
 const HELP: &str = "\
-compare all                         every comparison that needs no other program
-compare NAME                        one of them: matching, areas, evaluation, reading, judging, book
-compare NAME PART [SEED [COUNT]]    one part of it, from a seed on
-compare --help                      print this
+compare all                          every comparison that needs no other program or file
+compare NAME                         one of them: matching, areas, evaluation, reading, judging, book
+compare NAME PART [SEED [COUNT]]     one part of it, from a seed on
+compare published                    the primitives that the sources print
+compare cells FILES [-- LISTER..]    the primitives of cell libraries, also by the lister's program
+compare lister LISTER..              the lister's program, given as the words that run it
+compare icarus                       single steps against Icarus Verilog
+compare --quiet ..                   the same, with no line for each primitive
+compare --help                       print this
 ";
 
 const ALL: [Comparison; 6] = [
@@ -32,52 +41,72 @@ const ALL: [Comparison; 6] = [
 fn main() -> ExitCode {
     let arguments: Vec<String> = std::env::args().skip(1).collect();
     let words: Vec<&str> = arguments.iter().map(String::as_str).collect();
-    match words[..] {
+    let agree = match words[..] {
+        ["--quiet", ref rest @ ..] => run(rest, false),
+        ref all => run(all, true),
+    };
+    match agree {
+        Some(true) => ExitCode::SUCCESS,
+        Some(false) => ExitCode::FAILURE,
+        None => {
+            eprint!("{HELP}");
+            ExitCode::from(2)
+        }
+    }
+}
+
+/// Whether all agree; nothing if the words make no command.
+fn run(words: &[&str], details: bool) -> Option<bool> {
+    match *words {
         ["--help"] => {
             print!("{HELP}");
-            ExitCode::SUCCESS
+            Some(true)
         }
-        ["all"] => verdict(ALL.iter().all(report::run)),
-        [name, ref rest @ ..] => match ALL.iter().find(|comparison| comparison.name == name) {
-            Some(comparison) => one(comparison, rest),
-            None => usage(),
-        },
-        [] => usage(),
+        ["all"] => Some(ALL.iter().all(report::run) && published(details)),
+        ["published"] => Some(published(details)),
+        ["icarus"] => Some(report::once("icarus", icarus::compare)),
+        ["cells", ref rest @ ..] => cells(rest, details),
+        ["lister", ref program @ ..] if !program.is_empty() => {
+            Some(report::once("lister", || Ok(lister::compare(program))))
+        }
+        [name, ref rest @ ..] => {
+            let comparison = ALL.iter().find(|comparison| comparison.name == name)?;
+            some_parts(comparison, rest)
+        }
+        [] => None,
     }
 }
 
-fn one(comparison: &Comparison, rest: &[&str]) -> ExitCode {
+fn published(details: bool) -> bool {
+    report::once("published", || Ok(published::compare(details)))
+}
+
+fn cells(rest: &[&str], details: bool) -> Option<bool> {
+    let mut halves = rest.split(|word| *word == "--");
+    let (files, program) = (halves.next()?, halves.next());
+    if files.is_empty() || program.is_some_and(<[&str]>::is_empty) {
+        return None;
+    }
+    let compare = || cells::compare(files, program, details);
+    Some(report::once("cells", compare))
+}
+
+fn some_parts(comparison: &Comparison, rest: &[&str]) -> Option<bool> {
     let [name, ref numbers @ ..] = *rest else {
-        return verdict(report::run(comparison));
+        return Some(report::run(comparison));
     };
-    let part = comparison.parts.iter().find(|part| part.name == name);
+    let part = comparison.parts.iter().find(|part| part.name == name)?;
     let numbers: Option<Vec<u64>> = numbers.iter().map(|word| word.parse().ok()).collect();
-    match (part, numbers.as_deref()) {
-        (Some(part), Some([])) => verdict(report::run_part(comparison, part)),
-        (Some(part), Some(&[seed])) => verdict(again(comparison, part, seed, 1)),
-        (Some(part), Some(&[seed, count])) => verdict(again(comparison, part, seed, count)),
-        _ => usage(),
-    }
-}
-
-fn again(comparison: &Comparison, part: &Part, seed: u64, count: u64) -> bool {
+    let (seed, count) = match numbers?[..] {
+        [] => (part.seed, part.count),
+        [seed] => (seed, 1),
+        [seed, count] => (seed, count as usize),
+        _ => return None,
+    };
     let part = Part {
         seed,
-        count: count as usize,
+        count,
         ..*part
     };
-    report::run_part(comparison, &part)
-}
-
-fn verdict(agree: bool) -> ExitCode {
-    if agree {
-        ExitCode::SUCCESS
-    } else {
-        ExitCode::FAILURE
-    }
-}
-
-fn usage() -> ExitCode {
-    eprint!("{HELP}");
-    ExitCode::from(2)
+    Some(report::run_part(comparison, &part))
 }

@@ -1,6 +1,7 @@
 //! Comparisons, their parts, and the line that each prints.
 
 use second::compare::{Mismatch, Outcome, Stats};
+use std::io;
 use std::time::Instant;
 
 /// Case k of a part is made from the seed plus k alone; a part that tries all cases takes no heed of both.
@@ -51,8 +52,22 @@ fn run_parts<'p>(name: &str, parts: impl Iterator<Item = &'p Part>) -> bool {
     true
 }
 
+/// Runs a comparison that is of one piece and may need other programs.
+pub fn once(name: &str, run: impl FnOnce() -> io::Result<Outcome>) -> bool {
+    let begun = Instant::now();
+    match run() {
+        Ok(Ok(stats)) => {
+            agree(name, &stats, begun);
+            return true;
+        }
+        Ok(Err(mismatch)) => println!("{name}: {mismatch}"),
+        Err(error) => println!("{name}: {error}"),
+    }
+    false
+}
+
 /// One line: how many agree, how many of each kind of answer, and the time it took.
-pub fn agree(name: &str, stats: &Stats, begun: Instant) {
+fn agree(name: &str, stats: &Stats, begun: Instant) {
     let kinds: Vec<String> = stats
         .answers
         .iter()

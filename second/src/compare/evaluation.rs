@@ -1,7 +1,7 @@
 //! Evaluation: outputs and refusals.
 
 use super::{cases, kind, same, show, Mismatch, Outcome, Stats};
-use crate::area::encode;
+use crate::area::{decode, encode};
 use crate::evaluation::evaluate;
 use crate::generate::random::Random;
 use crate::generate::{areas, tables, vectors};
@@ -17,18 +17,24 @@ pub fn compare_evaluation(seed: u64, count: usize, other: &Evaluate) -> Outcome 
     })
 }
 
-/// Several calls with each table, which takes longer to make than a call.
-pub fn compare_evaluations(seed: u64, tables: usize, calls: usize, other: &Evaluate) -> Outcome {
+/// Twelve calls with each table, which takes longer to make than a call; two with a table of many
+/// rows, where a call takes long too.
+pub fn compare_evaluations(seed: u64, tables: usize, other: &Evaluate) -> Outcome {
     let mut stats = Stats::default();
     for k in 0..tables as u64 {
         let seed = seed.wrapping_add(k);
         let random = &mut Random::new(seed);
         let (area, n) = lent_table(random);
+        let calls = if has_many_rows(&area) { 2 } else { 12 };
         for _ in 0..calls {
             stats.note(compare_call(seed, random, (&area, n), other)?);
         }
     }
     Ok(stats)
+}
+
+fn has_many_rows(lent: &[u8]) -> bool {
+    decode(lent).is_some_and(|table| table.rows.len() > 20)
 }
 
 /// Vectors, old output and order by chance, for an area and a number of inputs.
