@@ -78,17 +78,17 @@ fn read_row(text: &[u8], at: usize, sequential: bool, n: usize, a: &mut [u8]) ->
     let mut symbols = [Symbol::Held(Level::Zero); base::INPUTS];
     let mut i = at;
     let mut edge = sequential;
-    let mut k: usize = 0;
-    while k < n {
+    let mut column: usize = 0;
+    while column < n {
         let c = fields::read_column(text, i, edge);
         let Piece::At(w, j) = c else {
             return fields::raised(c);
         };
         let s = fields::symbol_in(w);
-        symbols[k] = s;
+        symbols[column] = s;
         edge = edge & !symbol::is_edge(s);
         i = j;
-        k += 1;
+        column += 1;
     }
     finish_row(text, i, sequential, edge, symbols, a)
 }

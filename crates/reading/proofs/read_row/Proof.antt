@@ -19,10 +19,10 @@ use Rattle.reading.proofs.read_row.Statement.{statement}
 use Rattle.reading.proofs.read_row.Tie as tie
 
 abbrev Inv-loop : tie.InvT-loop
-Inv-loop text at sequential n a symbols₀ i₀ edge₀ k₀ symbols i edge k = (columns n sequential at (drop at text) ≡ behind (take k symbols) (columns (n - k) edge i (drop i text))) × (k ≤ n) × (length symbols ≡ inputLimit)
+Inv-loop text at sequential n a symbols₀ i₀ edge₀ column₀ symbols i edge column = (columns n sequential at (drop at text) ≡ behind (take column symbols) (columns (n - column) edge i (drop i text))) × (column ≤ n) × (length symbols ≡ inputLimit)
 
 abbrev μ-loop : tie.MeasureT-loop
-μ-loop text at sequential n a symbols₀ i₀ edge₀ k₀ symbols i edge k = n - k
+μ-loop text at sequential n a symbols₀ i₀ edge₀ column₀ symbols i edge column = n - column
 
 pub read-row-spec : {M : Type 1} → statement M
 read-row-spec =
@@ -35,14 +35,14 @@ read-row-spec =
     (λ c. search needs)
     (λ c. search needs)
     (λ c κs. search needs)
-    (λ c. let l = c .before .before .before .before .before .loop in let t = (now (c .before .before .before .before .before .before .before .before .args .text)) in let n = c .before .before .before .before .before .before .before .before .args .n in let r : n - l .k ≡ suc (n - (l .k + 1)) = omega arith in let v = rw (r, columns-more (n - (l .k + 1)) (l .edge) (l .i) (drop (l .i) t), c .before .before .before .read-column .ensures) at (l .inv .0) in rw (row-is, v, c .before .enum-told .given .1, c .raised .ensures, c .before .enum-told .given .1))
+    (λ c. let l = c .before .before .before .before .before .loop in let t = (now (c .before .before .before .before .before .before .before .before .args .text)) in let n = c .before .before .before .before .before .before .before .before .args .n in let r : n - l .column ≡ suc (n - (l .column + 1)) = omega arith in let v = rw (r, columns-more (n - (l .column + 1)) (l .edge) (l .i) (drop (l .i) t), c .before .before .before .read-column .ensures) at (l .inv .0) in rw (row-is, v, c .before .enum-told .given .1, c .raised .ensures, c .before .enum-told .given .1))
     (λ c κs. search needs)
     (λ c. search needs)
     (λ c. omega arith)
     (λ c κs. search needs)
     (λ c. omega arith)
     (λ c. omega arith)
-    (λ c. let l = c .before .before .before .before .before .before .before .loop in let t = (now (c .before .before .before .before .before .before .before .before .before .before .args .text)) in let n = c .before .before .before .before .before .before .before .before .before .before .args .n in let y = c .before .symbol-in .result in let j = c .before .before .before .c .given .0 .1 .0 in let r : n - l .k ≡ suc (n - (l .k + 1)) = omega arith in let v = rw (r, columns-more (n - (l .k + 1)) (l .edge) (l .i) (drop (l .i) t), c .before .before .before .before .before .read-column .ensures) at (l .inv .0) in let q : take (l .k + 1) (set (l .symbols) (l .k) y) ≡ take (l .k) (l .symbols) ++ (y ∷ []) = rw add-one (take-suc-set (l .symbols) (l .k) y (omega arith)) in (rw (v, c .before .before .before .c .given .1, ← c .before .symbol-in .ensures, ← c .is-edge .ensures, q) (behind-more (take (l .k) (l .symbols)) y (columns (n - (l .k + 1)) (l .edge && not (c .is-edge .result)) j (drop j t))), omega arith, simp length-set (l .inv .2)))
+    (λ c. let l = c .before .before .before .before .before .before .before .loop in let t = (now (c .before .before .before .before .before .before .before .before .before .before .args .text)) in let n = c .before .before .before .before .before .before .before .before .before .before .args .n in let y = c .before .symbol-in .result in let j = c .before .before .before .c .given .0 .1 .0 in let r : n - l .column ≡ suc (n - (l .column + 1)) = omega arith in let v = rw (r, columns-more (n - (l .column + 1)) (l .edge) (l .i) (drop (l .i) t), c .before .before .before .before .before .read-column .ensures) at (l .inv .0) in let q : take (l .column + 1) (set (l .symbols) (l .column) y) ≡ take (l .column) (l .symbols) ++ (y ∷ []) = rw add-one (take-suc-set (l .symbols) (l .column) y (omega arith)) in (rw (v, c .before .before .before .c .given .1, ← c .before .symbol-in .ensures, ← c .is-edge .ensures, q) (behind-more (take (l .column) (l .symbols)) y (columns (n - (l .column + 1)) (l .edge && not (c .is-edge .result)) j (drop j t))), omega arith, simp length-set (l .inv .2)))
     (λ c κs. search needs)
     (λ c. search needs)
-    (λ c. let l = c .before .before .before .before .before .loop in let n = c .before .before .before .before .before .before .before .before .args .n in let r : n - l .k ≡ 0 = omega arith in let q : l .k ≡ getD (now (c .before .before .before .before .before .before .before .before .args .a)) inputsAt 0 = omega (arith, c .before .before .before .before .before .before .before .before .pre .1) in rw (row-is, l .inv .0, r, q) (c .before .before .finish-row .ensures)))
+    (λ c. let l = c .before .before .before .before .before .loop in let n = c .before .before .before .before .before .before .before .before .args .n in let r : n - l .column ≡ 0 = omega arith in let q : l .column ≡ getD (now (c .before .before .before .before .before .before .before .before .args .a)) inputsAt 0 = omega (arith, c .before .before .before .before .before .before .before .before .pre .1) in rw (row-is, l .inv .0, r, q) (c .before .before .finish-row .ensures)))
