@@ -32,11 +32,12 @@ unfoldable pub secondRank : List ℕ → ℕ → ℕ → ℕ → ℕ → ℕ →
 secondRank f bi bj wi wj a b v x y o = twice f (bj + moved v wj b y) b (bi + moved (moved v wi a x) wj b y) a o
 
 -- case c of the 27 of vector v
+unfoldable pub differsBy : List ℕ → ℕ → ℕ → ℕ → ℕ → ℕ → ℕ → ℕ → ℕ → Bool
+differsBy f bi bj wi wj a b v c =
+    not (eqb (firstRank f bi bj wi wj a b v (c / 9) (c / 3 % 3) (c % 3)) (secondRank f bi bj wi wj a b v (c / 9) (c / 3 % 3) (c % 3)))
+
 unfoldable pub differsAt : List ℕ → ℕ → ℕ → ℕ → ℕ → ℕ → ℕ → Bool
-differsAt f bi bj wi wj v c =
-    not (eqb
-    (firstRank f bi bj wi wj (v / wi % 3) (v / wj % 3) v (c / 9) (c / 3 % 3) (c % 3))
-    (secondRank f bi bj wi wj (v / wi % 3) (v / wj % 3) v (c / 9) (c / 3 % 3) (c % 3)))
+differsAt f bi bj wi wj v c = differsBy f bi bj wi wj (v / wi % 3) (v / wj % 3) v c
 
 -- candidate r of the columns i and j
 unfoldable pub differsIn : List ℕ → ℕ → ℕ → ℕ → ℕ → Bool

@@ -7,7 +7,7 @@ ghost use Rattle.base.specs.Listed.{listed};
 ghost use Rattle.table.specs.Area.{decode};
 ghost use Rattle.evaluation.specs.Step.{stepOf};
 ghost use Rattle.memo.specs.Rows.{Small};
-ghost use Rattle.judge.specs.Search.{twice, weight, firstRank, secondRank, differsAt, firstIn, pairDiffers, pairs, firstPair, outputOf, otherOf, witnessIn, findingIn, yesIn, squareIn, Numbers};
+ghost use Rattle.judge.specs.Search.{twice, weight, firstRank, secondRank, differsAt, differsBy, firstIn, pairDiffers, pairs, firstPair, outputOf, otherOf, witnessIn, findingIn, yesIn, squareIn, Numbers};
 ghost use Rattle.judge.specs.Judge.{RightFinding, squareOf, squareFor};
 ghost use Rattle.judge.specs.Answer.{Right};
 use value::Ternary;
@@ -97,13 +97,21 @@ fn second_rank(
     twice_at(f, bj + p, b, bi + w, a, o)
 }
 
-// The two orders differ in case c of the 27 of vector v.
-fn differs(f: &[u8], bi: usize, bj: usize, wi: usize, wj: usize, v: usize, c: usize) -> bool
-    requires { ⌜ Numbers bi bj wi wj × (v < 19683) × (c < 27) ⌝ }
-    ensures { λ r. ⌜ r ≡ differsAt (now (f .entry)) bi bj wi wj v c ⌝ }
+// The two orders differ in case c of the 27 of vector v, where the two columns have the values a and b.
+fn differs(
+    f: &[u8],
+    bi: usize,
+    bj: usize,
+    wi: usize,
+    wj: usize,
+    a: usize,
+    b: usize,
+    v: usize,
+    c: usize,
+) -> bool
+    requires { ⌜ Numbers bi bj wi wj × (a < 3) × (b < 3) × (v < 19683) × (c < 27) ⌝ }
+    ensures { λ r. ⌜ r ≡ differsBy (now (f .entry)) bi bj wi wj a b v c ⌝ }
 {
-    let a = v / wi % 3;
-    let b = v / wj % 3;
     let x = c / 9;
     let y = c / 3 % 3;
     let o = c % 3;
@@ -116,9 +124,11 @@ fn first_case(f: &[u8], bi: usize, bj: usize, wi: usize, wj: usize, v: usize) ->
     requires { ⌜ Numbers bi bj wi wj × (v < 19683) ⌝ }
     ensures { λ r. ⌜ r ≡ first 27 (differsAt (now (f .entry)) bi bj wi wj v) ⌝ }
 {
+    let a = v / wi % 3;
+    let b = v / wj % 3;
     let mut c: usize = 0;
     while c < 27 {
-        if differs(f, bi, bj, wi, wj, v, c) {
+        if differs(f, bi, bj, wi, wj, a, b, v, c) {
             return c;
         }
         c += 1;
