@@ -5,3 +5,4 @@ pub mod Squares
 pub mod Sounds
 pub mod Numbers
 pub mod Lending
+pub mod Agreeing
