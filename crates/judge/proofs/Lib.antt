@@ -6,3 +6,4 @@ pub mod Sounds
 pub mod Numbers
 pub mod Lending
 pub mod Agreeing
+pub mod Checked
