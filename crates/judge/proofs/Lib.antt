@@ -5,3 +5,5 @@ pub mod Squares
 pub mod Sounds
 pub mod Numbers
 pub mod Lending
+pub mod Agreeing
+pub mod Checked

@@ -19,7 +19,7 @@ use Rattle.orders.proofs.Pairs.{tail-idle}
 use Rattle.orders.proofs.Candidates.{value-rank, rank-value, rank-low, vector-number}
 use Rattle.orders.proofs.Digits as digits
 use Rattle.memo.specs.Memo.{slot, kept, Memo}
-use Rattle.judge.specs.Search.{twice, weight, moved, firstRank, secondRank, differsAt, differsIn, outputOf, otherOf}
+use Rattle.judge.specs.Search.{twice, weight, moved, firstRank, secondRank, differsAt, differsBy, differsIn, outputOf, otherOf}
 
 module _ {n : ℕ} {phi : Step} (L : Laws n phi) {f : List ℕ} (M : Memo n phi f) where
   -- one step: the input of column k goes from q, where it had value number x, to vector number p
@@ -171,7 +171,7 @@ module _ {n : ℕ} {phi : Step} (L : Laws n phi) {f : List ℕ} (M : Memo n phi 
 
   -- a candidate differs in the kept steps exactly where the outputs of the two orders do
   pub differs-is : differsIn f n i j r ≡ not (sameValue (firstOutput n phi (suc i) (suc j) r) (secondOutput n phi (suc i) (suc j) r))
-  unfolding differsIn differsAt sameValue outputOf otherOf
+  unfolding differsIn differsAt differsBy sameValue outputOf otherOf
   differs-is = ap (λ (b : Bool). not b) (same-both output-is other-is)
     where
       same-both : outputOf f n i j r ≡ rankOf (firstOutput n phi (suc i) (suc j) r) → otherOf f n i j r ≡ rankOf (secondOutput n phi (suc i) (suc j) r) →

@@ -1,3 +1,4 @@
 pub mod Search
 pub mod Judge
 pub mod Answer
+pub mod Cases

@@ -32,11 +32,29 @@ unfoldable pub secondRank : List ℕ → ℕ → ℕ → ℕ → ℕ → ℕ →
 secondRank f bi bj wi wj a b v x y o = twice f (bj + moved v wj b y) b (bi + moved (moved v wi a x) wj b y) a o
 
 -- case c of the 27 of vector v
+unfoldable pub differsBy : List ℕ → ℕ → ℕ → ℕ → ℕ → ℕ → ℕ → ℕ → ℕ → Bool
+differsBy f bi bj wi wj a b v c =
+    not (eqb (firstRank f bi bj wi wj a b v (c / 9) (c / 3 % 3) (c % 3)) (secondRank f bi bj wi wj a b v (c / 9) (c / 3 % 3) (c % 3)))
+
 unfoldable pub differsAt : List ℕ → ℕ → ℕ → ℕ → ℕ → ℕ → ℕ → Bool
-differsAt f bi bj wi wj v c =
-    not (eqb
-    (firstRank f bi bj wi wj (v / wi % 3) (v / wj % 3) v (c / 9) (c / 3 % 3) (c % 3))
-    (secondRank f bi bj wi wj (v / wi % 3) (v / wj % 3) v (c / 9) (c / 3 % 3) (c % 3)))
+differsAt f bi bj wi wj v c = differsBy f bi bj wi wj (v / wi % 3) (v / wj % 3) v c
+
+-- the same test for all 27 cases at once: the steps lead from blocks p and q to blocks s and t
+unfoldable pub agreeO : List ℕ → ℕ → ℕ → ℕ → ℕ → ℕ → ℕ → ℕ → Bool
+agreeO f p q s t a b o = eqb (twice f p a t b o) (twice f q b s a o)
+
+unfoldable pub agreeXY : List ℕ → ℕ → ℕ → ℕ → ℕ → ℕ → ℕ → ℕ → ℕ → Bool
+agreeXY f bi bj wj a b v u y =
+    agreeO f (bi + u) (bj + moved v wj b y) (bi + moved u wj b y) (bj + moved u wj b y) a b 0
+    && (agreeO f (bi + u) (bj + moved v wj b y) (bi + moved u wj b y) (bj + moved u wj b y) a b 1
+    && agreeO f (bi + u) (bj + moved v wj b y) (bi + moved u wj b y) (bj + moved u wj b y) a b 2)
+
+unfoldable pub agreeX : List ℕ → ℕ → ℕ → ℕ → ℕ → ℕ → ℕ → ℕ → ℕ → Bool
+agreeX f bi bj wi wj a b v x =
+    agreeXY f bi bj wj a b v (moved v wi a x) 0 && (agreeXY f bi bj wj a b v (moved v wi a x) 1 && agreeXY f bi bj wj a b v (moved v wi a x) 2)
+
+unfoldable pub agreeV : List ℕ → ℕ → ℕ → ℕ → ℕ → ℕ → ℕ → ℕ → Bool
+agreeV f bi bj wi wj a b v = agreeX f bi bj wi wj a b v 0 && (agreeX f bi bj wi wj a b v 1 && agreeX f bi bj wi wj a b v 2)
 
 -- candidate r of the columns i and j
 unfoldable pub differsIn : List ℕ → ℕ → ℕ → ℕ → ℕ → Bool

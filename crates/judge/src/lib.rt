@@ -7,7 +7,7 @@ ghost use Rattle.base.specs.Listed.{listed};
 ghost use Rattle.table.specs.Area.{decode};
 ghost use Rattle.evaluation.specs.Step.{stepOf};
 ghost use Rattle.memo.specs.Rows.{Small};
-ghost use Rattle.judge.specs.Search.{twice, weight, firstRank, secondRank, differsAt, firstIn, pairDiffers, pairs, firstPair, outputOf, otherOf, witnessIn, findingIn, yesIn, squareIn, Numbers};
+ghost use Rattle.judge.specs.Search.{twice, weight, firstRank, secondRank, differsAt, differsBy, agreeO, agreeXY, agreeX, agreeV, firstIn, pairDiffers, pairs, firstPair, outputOf, otherOf, witnessIn, findingIn, yesIn, squareIn, Numbers};
 ghost use Rattle.judge.specs.Judge.{RightFinding, squareOf, squareFor};
 ghost use Rattle.judge.specs.Answer.{Right};
 use value::Ternary;
@@ -97,13 +97,21 @@ fn second_rank(
     twice_at(f, bj + p, b, bi + w, a, o)
 }
 
-// The two orders differ in case c of the 27 of vector v.
-fn differs(f: &[u8], bi: usize, bj: usize, wi: usize, wj: usize, v: usize, c: usize) -> bool
-    requires { ⌜ Numbers bi bj wi wj × (v < 19683) × (c < 27) ⌝ }
-    ensures { λ r. ⌜ r ≡ differsAt (now (f .entry)) bi bj wi wj v c ⌝ }
+// The two orders differ in case c of the 27 of vector v, where the two columns have the values a and b.
+fn differs(
+    f: &[u8],
+    bi: usize,
+    bj: usize,
+    wi: usize,
+    wj: usize,
+    a: usize,
+    b: usize,
+    v: usize,
+    c: usize,
+) -> bool
+    requires { ⌜ Numbers bi bj wi wj × (a < 3) × (b < 3) × (v < 19683) × (c < 27) ⌝ }
+    ensures { λ r. ⌜ r ≡ differsBy (now (f .entry)) bi bj wi wj a b v c ⌝ }
 {
-    let a = v / wi % 3;
-    let b = v / wj % 3;
     let x = c / 9;
     let y = c / 3 % 3;
     let o = c % 3;
@@ -112,13 +120,89 @@ fn differs(f: &[u8], bi: usize, bj: usize, wi: usize, wj: usize, v: usize, c: us
     !(one == two)
 }
 
+// The two orders agree for old output o: the steps lead from blocks p and q to blocks s and t.
+fn agree_o(f: &[u8], p: usize, q: usize, s: usize, t: usize, a: usize, b: usize, o: usize) -> bool
+    requires { ⌜ (p ≤ 1000000) × (q ≤ 1000000) × (s ≤ 1000000) × (t ≤ 1000000) × (a < 3) × (b < 3) × (o < 3) ⌝ }
+    ensures { λ r. ⌜ r ≡ agreeO (now (f .entry)) p q s t a b o ⌝ }
+{
+    let one = twice_at(f, p, a, t, b, o);
+    let two = twice_at(f, q, b, s, a, o);
+    one == two
+}
+
+// The same for every old output, where column i has gone from v to u.
+fn agree_xy(
+    f: &[u8],
+    bi: usize,
+    bj: usize,
+    wj: usize,
+    a: usize,
+    b: usize,
+    v: usize,
+    u: usize,
+    y: usize,
+) -> bool
+    requires { ⌜ (bi ≤ 200000) × (bj ≤ 200000) × (wj ≤ 6561) × (v < 19683) × (u ≤ 40000) × (a < 3) × (b < 3) × (y < 3) ⌝ }
+    ensures { λ r. ⌜ r ≡ agreeXY (now (f .entry)) bi bj wj a b v u y ⌝ }
+{
+    let p = bi + u;
+    let q = bj + moved_by(v, wj, b, y);
+    let w = moved_by(u, wj, b, y);
+    let s = bi + w;
+    let t = bj + w;
+    agree_o(f, p, q, s, t, a, b, 0)
+        & (agree_o(f, p, q, s, t, a, b, 1) & agree_o(f, p, q, s, t, a, b, 2))
+}
+
+fn agree_x(
+    f: &[u8],
+    bi: usize,
+    bj: usize,
+    wi: usize,
+    wj: usize,
+    a: usize,
+    b: usize,
+    v: usize,
+    x: usize,
+) -> bool
+    requires { ⌜ Numbers bi bj wi wj × (v < 19683) × (a < 3) × (b < 3) × (x < 3) ⌝ }
+    ensures { λ r. ⌜ r ≡ agreeX (now (f .entry)) bi bj wi wj a b v x ⌝ }
+{
+    let u = moved_by(v, wi, a, x);
+    agree_xy(f, bi, bj, wj, a, b, v, u, 0)
+        & (agree_xy(f, bi, bj, wj, a, b, v, u, 1) & agree_xy(f, bi, bj, wj, a, b, v, u, 2))
+}
+
+// All 27 cases of vector v agree.
+fn agree_v(
+    f: &[u8],
+    bi: usize,
+    bj: usize,
+    wi: usize,
+    wj: usize,
+    a: usize,
+    b: usize,
+    v: usize,
+) -> bool
+    requires { ⌜ Numbers bi bj wi wj × (v < 19683) × (a < 3) × (b < 3) ⌝ }
+    ensures { λ r. ⌜ r ≡ agreeV (now (f .entry)) bi bj wi wj a b v ⌝ }
+{
+    agree_x(f, bi, bj, wi, wj, a, b, v, 0)
+        & (agree_x(f, bi, bj, wi, wj, a, b, v, 1) & agree_x(f, bi, bj, wi, wj, a, b, v, 2))
+}
+
 fn first_case(f: &[u8], bi: usize, bj: usize, wi: usize, wj: usize, v: usize) -> usize
     requires { ⌜ Numbers bi bj wi wj × (v < 19683) ⌝ }
     ensures { λ r. ⌜ r ≡ first 27 (differsAt (now (f .entry)) bi bj wi wj v) ⌝ }
 {
+    let a = v / wi % 3;
+    let b = v / wj % 3;
+    if agree_v(f, bi, bj, wi, wj, a, b, v) {
+        return 27;
+    }
     let mut c: usize = 0;
     while c < 27 {
-        if differs(f, bi, bj, wi, wj, v, c) {
+        if differs(f, bi, bj, wi, wj, a, b, v, c) {
             return c;
         }
         c += 1;
