@@ -17,12 +17,8 @@ pub const COMPARISON: Comparison = Comparison {
         part("small", 20_000, |seed, count| {
             tables(seed, count, |random| random.between(1, 5))
         }),
-        part("large", 300, |seed, count| {
-            tables(seed, count, |random| {
-                *random.pick(&[6, 6, 6, 6, 7, 7, 7, 8, 8, 9])
-            })
-        }),
-        part("largest", 6, |seed, count| {
+        part("large", 300, |seed, count| tables(seed, count, six_to_nine)),
+        part("largest", 2, |seed, count| {
             cases(seed, count, |seed, random| {
                 compare_table(seed, &largest(random), &verified::judge)
             })
@@ -43,6 +39,16 @@ fn tables(seed: u64, count: usize, inputs: fn(&mut Random) -> usize) -> Outcome 
         let table = seldom_many_rows(random, inputs);
         compare_table(seed, &table, &verified::judge)
     })
+}
+
+/// Each input more makes judging some twelve times longer.
+fn six_to_nine(random: &mut Random) -> usize {
+    match random.below(60) {
+        0 => 9,
+        1..=2 => 8,
+        3..=11 => 7,
+        _ => 6,
+    }
 }
 
 /// Many rows make many calls slow, and show little that few do not.
