@@ -21,7 +21,7 @@ pub const COMPARISON: Comparison = Comparison {
             compare_append(seed, count, &verified::append)
         }),
         part("numbers", 10_000, numbers),
-        part("limits", 100, limits),
+        part("limits", 50, limits),
         part("fetch", 6_000, |seed, count| {
             compare_fetch(seed, count, &verified::fetch)
         }),

@@ -6,7 +6,7 @@ use second::compare::evaluation::compare_evaluations;
 
 pub const COMPARISON: Comparison = Comparison {
     name: "evaluation",
-    parts: &[part("orders", 15_000, |seed, tables| {
+    parts: &[part("orders", 12_000, |seed, tables| {
         compare_evaluations(seed, tables, &verified::evaluate)
     })],
 };

@@ -18,7 +18,7 @@ pub const COMPARISON: Comparison = Comparison {
             tables(seed, count, |random| random.between(1, 5))
         }),
         part("large", 300, |seed, count| tables(seed, count, six_to_nine)),
-        part("largest", 2, |seed, count| {
+        part("largest", 1, |seed, count| {
             cases(seed, count, |seed, random| {
                 compare_table(seed, &largest(random), &verified::judge)
             })
@@ -27,7 +27,7 @@ pub const COMPARISON: Comparison = Comparison {
         part("definition", 400, |seed, count| {
             definition(seed, count, |random| random.between(1, 3))
         }),
-        part("definition-of-four", 16, |seed, count| {
+        part("definition-of-four", 12, |seed, count| {
             definition(seed, count, |_| 4)
         }),
     ],

@@ -17,7 +17,7 @@ pub fn compare_evaluation(seed: u64, count: usize, other: &Evaluate) -> Outcome 
     })
 }
 
-/// Twelve calls with each table, which takes longer to make than a call; two with a table of many
+/// Sixteen calls with each table, which takes longer to make than a call; two with a table of many
 /// rows, where a call takes long too.
 pub fn compare_evaluations(seed: u64, tables: usize, other: &Evaluate) -> Outcome {
     let mut stats = Stats::default();
@@ -25,7 +25,7 @@ pub fn compare_evaluations(seed: u64, tables: usize, other: &Evaluate) -> Outcom
         let seed = seed.wrapping_add(k);
         let random = &mut Random::new(seed);
         let (area, n) = lent_table(random);
-        let calls = if has_many_rows(&area) { 2 } else { 12 };
+        let calls = if has_many_rows(&area) { 2 } else { 16 };
         for _ in 0..calls {
             stats.note(compare_call(seed, random, (&area, n), other)?);
         }

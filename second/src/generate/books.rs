@@ -53,7 +53,7 @@ pub fn lent(random: &mut Random) -> Lent {
         4 => tear(random, &mut lent),
         5 => lent.stated = lent.buffer.len() + 1 + random.below(3),
         6 => lent.buffer.truncate(lent.stated),
-        7 if random.one_in(8) => return full(random),
+        7 if random.one_in(20) => return full(random),
         8 => damage_byte(random, &mut lent),
         _ => return with_damaged_line(random, &lent),
     }
