@@ -3,20 +3,22 @@
 use std::hint::black_box;
 use std::time::{Duration, Instant};
 
-const ROUNDS: usize = 15;
 const ROUND: Duration = Duration::from_millis(8);
+const MOST_ROUNDS: u32 = 15;
+/// About what all rounds of a long call may take.
+const ALL_ROUNDS: Duration = Duration::from_millis(1_000);
 
 pub fn head() {
     println!(
         "{:<68} {:>12} {:>12} {:>7}",
-        "best of 15, in microseconds", "verified", "second", "ratio"
+        "best of up to 15, in microseconds", "verified", "second", "ratio"
     );
 }
 
 /// Measures both sides and prints one line.
 pub fn line<A, B>(what: &str, verified: impl FnMut() -> A, second: impl FnMut() -> B) {
     let mut sides = (Side::new(verified), Side::new(second));
-    for _ in 0..ROUNDS {
+    for _ in 0..sides.0.rounds().min(sides.1.rounds()) {
         sides.0.round();
         sides.1.round();
     }
@@ -27,6 +29,7 @@ pub fn line<A, B>(what: &str, verified: impl FnMut() -> A, second: impl FnMut() 
 
 struct Side<F> {
     call: F,
+    once: Duration,
     repeats: u32,
     best: f64,
 }
@@ -40,9 +43,15 @@ impl<A, F: FnMut() -> A> Side<F> {
         let repeats = (ROUND.as_nanos() / once.as_nanos()).clamp(1, 100_000) as u32;
         Side {
             call,
+            once,
             repeats,
             best: f64::INFINITY,
         }
+    }
+
+    fn rounds(&self) -> u32 {
+        let most = ALL_ROUNDS.as_nanos() / self.once.as_nanos();
+        (most as u32).clamp(2, MOST_ROUNDS)
     }
 
     fn round(&mut self) {

@@ -15,7 +15,9 @@ pub const COMPARISON: Comparison = Comparison {
     name: "judging",
     parts: &[
         part("small", 20_000, |seed, count| {
-            tables(seed, count, |random| random.between(1, 5))
+            tables(seed, count, |random| {
+                *random.pick(&[1, 2, 2, 3, 3, 4, 4, 5])
+            })
         }),
         part("large", 300, |seed, count| tables(seed, count, six_to_nine)),
         part("largest", 1, |seed, count| {
