@@ -16,7 +16,7 @@ pub const COMPARISON: Comparison = Comparison {
     parts: &[
         part("small", 20_000, |seed, count| {
             tables(seed, count, |random| {
-                *random.pick(&[1, 2, 2, 3, 3, 4, 4, 5])
+                *random.pick(&[1, 2, 2, 3, 3, 3, 4, 4, 4, 5])
             })
         }),
         part("large", 300, |seed, count| tables(seed, count, six_to_nine)),
@@ -29,7 +29,7 @@ pub const COMPARISON: Comparison = Comparison {
         part("definition", 400, |seed, count| {
             definition(seed, count, |random| random.between(1, 3))
         }),
-        part("definition-of-four", 12, |seed, count| {
+        part("definition-of-four", 10, |seed, count| {
             definition(seed, count, |_| 4)
         }),
     ],

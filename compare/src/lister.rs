@@ -40,7 +40,7 @@ fn run(stats: &mut Stats, program: &[&str], seed: u64) -> Result<(), Mismatch> {
 }
 
 fn primitive(random: &mut Random) -> Vec<u8> {
-    let inputs = random.between(1, 4);
+    let inputs = *random.pick(&[1, 2, 2, 2, 3, 3, 4]);
     let table = tables::sized(random, inputs);
     let mut text = texts::of_table(random, &table);
     text.push(b'\n');
