@@ -1,2 +1,3 @@
 pub mod Memo
 pub mod Rows
+pub mod Pair
