@@ -6,6 +6,7 @@ mod clock;
 mod evaluation;
 mod judging;
 mod lister;
+mod plot;
 mod reading;
 mod shapes;
 
@@ -15,6 +16,7 @@ const HELP: &str = "\
 bench all                               every measurement that needs no other program
 bench NAME                              one of them: evaluation, reading, judging, book
 bench lister LISTER.. -- SECOND..       both listers as programs, each given as the words that run it
+bench plot                              what `bench judging` printed, from standard input, as a picture (SVG)
 bench --help                            print this
 ";
 
@@ -39,6 +41,10 @@ fn main() -> ExitCode {
 fn run(words: &[&str]) -> Option<()> {
     match *words {
         ["--help"] => print!("{HELP}"),
+        ["plot"] => {
+            let printed = std::io::read_to_string(std::io::stdin()).ok()?;
+            print!("{}", plot::picture(&printed));
+        }
         ["all"] => {
             clock::head();
             ALL.iter().for_each(|(_, run)| run());
