@@ -83,6 +83,7 @@ fn cells_in(a: &[u8], i: usize) -> [u16; CELLS]
     c
 }
 
+// The three lowest bits are the values, of which an edge matches none.
 fn edge_at(a: &[u8], c: &[u16; CELLS], i: usize) -> usize
     requires { ⌜ CellsOf (decode (now a)) i (now c) ⌝ }
     ensures { λ r. ⌜ r ≡ edgeAt (decode (now (a .entry)) .inputs) (rowAt (decode (now (a .entry))) i) ⌝ }
@@ -114,6 +115,7 @@ fn columns_valid(a: &[u8], c: &[u16; CELLS], i: usize) -> bool
     true
 }
 
+// 7 is the set of ?, and 45 the byte of -.
 fn is_combinational(a: &[u8], c: &[u16; CELLS], i: usize) -> bool
     requires { ⌜ CellsOf (decode (now a)) i (now c) ⌝ }
     ensures { λ r. ⌜ r ≡ combinational (decode (now (a .entry)) .inputs) (rowAt (decode (now (a .entry))) i) ⌝ }
@@ -130,7 +132,7 @@ fn row_valid(a: &[u8], c: &[u16; CELLS], i: usize) -> bool
     columns_valid(a, c, i) & (table::sequential(a) | is_combinational(a, c, i))
 }
 
-// The columns of row i, which is among the first of which s has the cells, meet those of row j, which c has.
+// s has the cells of the rows before row j, and c has those of row j.
 fn cells_meet(
     a: &[u8],
     s: &[[u16; CELLS]; base::ROWS],
