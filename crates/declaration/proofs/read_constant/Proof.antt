@@ -1,5 +1,5 @@
 use Rattle.value.specs.Value.{valueOf}
-use Rattle.ports.specs.Heads.{digit}
+use Rattle.declaration.specs.Declaration.{digit}
 use Rattle.grammar.specs.Header.{constant}
 use Rattle.text.specs.Reader.{_>>=_, if}
 use Rattle.text.proofs.Blanklaws.{one-room}
@@ -11,8 +11,8 @@ use native.Mathlib.Omega.{arith}
 use denote.Ref.{now}
 use mathlib.Core.Path.{_≡_}
 use borrow.Author.Needs.{needs}
-use Rattle.ports.proofs.read_constant.Statement.{statement}
-use Rattle.ports.proofs.read_constant.Tie as tie
+use Rattle.declaration.proofs.read_constant.Statement.{statement}
+use Rattle.declaration.proofs.read_constant.Tie as tie
 
 pub read-constant-spec : {M : Type 1} → statement M
 unfolding constant _>>=_ if digit valueOf

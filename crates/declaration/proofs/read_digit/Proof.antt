@@ -1,15 +1,15 @@
 use Rattle.value.specs.Value.{valueOf}
 use Rattle.text.specs.Reader.{_>>=_}
-use Rattle.ports.specs.Heads.{digit}
-use Rattle.ports.proofs.Steps.{digitByte}
+use Rattle.declaration.specs.Declaration.{digit}
+use Rattle.declaration.proofs.Steps.{digitByte}
 use Rattle.text.proofs.Readlaws.{byte-nil, byte-cons}
 use denote.Ref.{now}
 use borrow.Author.Tests.{ne-eqb}
 use Rattle.text.proofs.Sum.{cases}
 use mathlib.Core.Logic.{inl, inr}
 use borrow.Author.Needs.{needs}
-use Rattle.ports.proofs.read_digit.Statement.{statement}
-use Rattle.ports.proofs.read_digit.Tie as tie
+use Rattle.declaration.proofs.read_digit.Statement.{statement}
+use Rattle.declaration.proofs.read_digit.Tie as tie
 
 pub read-digit-spec : {M : Type 1} → statement M
 unfolding digit _>>=_ valueOf

@@ -1,6 +1,6 @@
 use borrow.Author.Needs.{needs}
-use Rattle.ports.proofs.raised.Statement.{statement}
-use Rattle.ports.proofs.raised.Tie as tie
+use Rattle.header.proofs.raised.Statement.{statement}
+use Rattle.header.proofs.raised.Tie as tie
 
 pub raised-spec : {M : Type 1} → statement M
 raised-spec =

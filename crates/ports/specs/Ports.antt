@@ -1,40 +1,19 @@
--- What the code's answers on the header and the declarations mean.
+-- What the code keeps of the ports.
 use mathlib.Core.Path.{_≡_}
 use mathlib.Core.List.{List, [], _∷_}
-use mathlib.Core.Bool.{Bool, true, false, not, cond, _&&_, _||_}
+use mathlib.Core.Bool.{Bool, true, false, not, cond, _&&_}
 use mathlib.Core.Option.{Option, none, some}
 use Prim.Native.Nat.{ℕ, zero, suc, _+_, _≤_}
-use lib.Dec.{eqb, ltb}
-use lib.ListN.{length, getD, set, drop}
+use lib.Dec.{ltb}
+use lib.ListN.{getD, drop}
 use Rattle.base.specs.Limits.{inputLimit}
 use Rattle.base.specs.Listed.{listed}
-use Rattle.value.specs.declared.Ternary.{Ternary}
-use Rattle.value.specs.Value.{valueOf}
-use Rattle.text.specs.Bytes.{bytes, is, letter}
 use Rattle.text.specs.Words.{same, member}
 use Rattle.text.specs.Blanks.{more}
-use Rattle.text.specs.Reader.{Result, got, refused, Reader, _>>=_, _>>_, give, check, byte, name, sign}
 use Rattle.text.specs.Places.{part, meant}
 use Rattle.text.specs.declared.Step.{Step}
 use Rattle.text.specs.declared.Step.the-variants.{At as StepAt, Refused as StepRefused}
-use Rattle.grammar.specs.Header.{ports, portList, Declared, declared, valueSaid}
-use Rattle.ports.specs.declared.Head.{Head}
-use Rattle.ports.specs.declared.HeadStep.{HeadStep}
-use Rattle.ports.specs.declared.HeadStep.the-variants.{At, Refused}
-
--- a step's refusal as a head's
-abbrev pub stopped : Step → HeadStep
-stopped (StepAt a e) = Refused 3 e
-stopped (StepRefused c p) = Refused c p
-
--- a head's refusal as a step's
-abbrev pub raised : HeadStep → Step
-raised (At h e) = StepRefused 3 e
-raised (Refused c p) = StepRefused c p
-
-abbrev pub means : {A : Type 0} → List ℕ → (Head → A) → HeadStep → Result A
-means t f (At h e) = got (f h) e (drop e t)
-means t f (Refused c p) = refused c p
+use Rattle.grammar.specs.Header.{ports}
 
 -- ---- ports are kept as places: port k stands from its start to its end
 
@@ -70,39 +49,6 @@ abbrev pub allUp : ℕ → List Bool → Bool
 allUp zero fs = true
 allUp (suc m) [] = false
 allUp (suc m) (f ∷ fs) = f && allUp m fs
-
--- ---- parts of the grammar that have a function of their own
-
--- `output` and `reg`: the output's name, where it is fresh, and the semicolon
-unfoldable pub declare : List ℕ → Bool → Reader ℕ
-declare q fresh = do
-  x ← name
-  check (same (x .spelt) q && fresh) 5 (x .place)
-  sign ";"
-
--- the last byte of a based constant
-unfoldable pub digit : Reader Ternary
-digit = do
-  c ← byte (λ c. is c "0" || is c "1" || letter c "x" "X")
-  give (valueSaid c)
-
--- which of the words among the declarations
-abbrev pub declaringWord : ℕ → List ℕ
-declaringWord k = cond (eqb k 0) (bytes "output") (cond (eqb k 1) (bytes "reg") (cond (eqb k 2) (bytes "input") (cond (eqb k 3) (bytes "initial") (bytes "table"))))
-
--- from `(` to `table`
-unfoldable pub head : Reader Head
-head = do
-  h ← portList
-  d ← declared h
-  give (record { inputs = length (h .inputs); sequential = d .sequential; start = d .start })
-
--- a sequential primitive that starts at a value of that rank
-abbrev pub startingAt : ℕ → Declared
-startingAt v = record { sequential = true; start = valueOf v }
-
-abbrev pub headWith : ℕ → Declared → Reader Head
-headWith n d = give (record { inputs = n; sequential = d .sequential; start = d .start })
 
 -- ---- the ports of a list are distinct
 

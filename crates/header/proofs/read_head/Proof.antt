@@ -1,13 +1,13 @@
 use lib.ListN.{drop}
-use Rattle.ports.specs.Heads.{head}
+use Rattle.header.specs.Heads.{head}
 use Rattle.grammar.specs.Header.{portList, declared}
 use Rattle.text.specs.Reader.{_>>=_}
-use Rattle.ports.proofs.Keeping.{sized}
+use Rattle.header.proofs.Steps.{sized}
 use denote.Ref.{now}
 use mathlib.Core.Path.{_∙_}
 use borrow.Author.Needs.{needs}
-use Rattle.ports.proofs.read_head.Statement.{statement}
-use Rattle.ports.proofs.read_head.Tie as tie
+use Rattle.header.proofs.read_head.Statement.{statement}
+use Rattle.header.proofs.read_head.Tie as tie
 
 pub read-head-spec : {M : Type 1} → statement M
 unfolding head portList declared _>>=_

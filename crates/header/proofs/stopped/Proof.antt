@@ -1,6 +1,6 @@
 use borrow.Author.Needs.{needs}
-use Rattle.ports.proofs.stopped.Statement.{statement}
-use Rattle.ports.proofs.stopped.Tie as tie
+use Rattle.header.proofs.stopped.Statement.{statement}
+use Rattle.header.proofs.stopped.Tie as tie
 
 pub stopped-spec : {M : Type 1} → statement M
 stopped-spec =

@@ -2,8 +2,8 @@ use Rattle.grammar.specs.Header.{initial}
 use Rattle.text.specs.Reader.{_>>=_, check}
 use borrow.Author.Tests.{not-true, not-false}
 use borrow.Author.Needs.{needs}
-use Rattle.ports.proofs.read_initial.Statement.{statement}
-use Rattle.ports.proofs.read_initial.Tie as tie
+use Rattle.declaration.proofs.read_initial.Statement.{statement}
+use Rattle.declaration.proofs.read_initial.Tie as tie
 
 pub read-initial-spec : {M : Type 1} → statement M
 unfolding initial _>>=_ check

@@ -1,8 +1,8 @@
 use Rattle.text.specs.Reader.{_>>=_, check}
-use Rattle.ports.specs.Heads.{declare}
+use Rattle.declaration.specs.Declaration.{declare}
 use borrow.Author.Needs.{needs}
-use Rattle.ports.proofs.declare.Statement.{statement}
-use Rattle.ports.proofs.declare.Tie as tie
+use Rattle.declaration.proofs.declare.Statement.{statement}
+use Rattle.declaration.proofs.declare.Tie as tie
 
 pub declare-spec : {M : Type 1} → statement M
 unfolding declare _>>=_ check

@@ -4,8 +4,8 @@ use Rattle.text.specs.Reader.{word}
 use denote.Ref.{now}
 use mathlib.Core.Path.{sym, _∙_}
 use borrow.Author.Needs.{needs}
-use Rattle.ports.proofs.read_declaring.Statement.{statement}
-use Rattle.ports.proofs.read_declaring.Tie as tie
+use Rattle.declaration.proofs.read_declaring.Statement.{statement}
+use Rattle.declaration.proofs.read_declaring.Tie as tie
 
 pub read-declaring-spec : {M : Type 1} → statement M
 unfolding word

@@ -1,5 +1,5 @@
-use Rattle.ports.specs.Heads.{allUp}
+use Rattle.ports.specs.Ports.{allUp}
 use Rattle.ports.proofs.Flags.{up-cons}
 use mathlib.Core.Bool.{false}
 use native.Mathlib.Nat.{sub-zero}
 use borrow.Author.Tests.{not-true, not-false}
@@ -7,8 +7,8 @@ use lib.ListN.{drop, getD}
 use Prim.Native.Nat.{_+_, _-_, _≤_, suc}
 use native.Mathlib.Omega.{arith}
 use mathlib.Core.Path.{_≡_}
-use Rattle.ports.proofs.all_declared.Statement.{statement}
-use Rattle.ports.proofs.all_declared.Tie as tie
+use Rattle.header.proofs.all_declared.Statement.{statement}
+use Rattle.header.proofs.all_declared.Tie as tie
 
 abbrev Inv-loop : tie.InvT-loop
 Inv-loop n flags k₀ k = (allUp (n + 1) flags ≡ allUp (n + 1 - k) (drop k flags)) × (k ≤ n + 1)

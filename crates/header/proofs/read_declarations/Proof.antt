@@ -1,10 +1,11 @@
-use Rattle.ports.specs.Heads.{portAt, portsOf, down, headWith}
+use Rattle.ports.specs.Ports.{portAt, portsOf, down}
+use Rattle.header.specs.Heads.{headWith}
 use Rattle.grammar.specs.Header.{declarations, declarationRoom}
 use Rattle.text.specs.Reader.{bind, check}
-use Rattle.ports.proofs.Steps.{turn-fault, turn-output, turn-reg, turn-input, turn-initial, turn-table, turn-none, word-table}
+use Rattle.header.proofs.Steps.{turn-fault, turn-output, turn-reg, turn-input, turn-initial, turn-table, turn-none, word-table}
 use Rattle.base.specs.Limits.{inputLimit}
 use Rattle.ports.proofs.Keeping.{output-test, output-raise, all-up}
 use Rattle.ports.proofs.Flags.{down-fresh}
 use mathlib.Core.Bool.{false}
 use lib.ListN.{length, drop, length-set}
 use Prim.Native.Nat.{_+_, _-_, suc}
@@ -12,8 +13,8 @@ use native.Mathlib.Omega.{arith}
 use denote.Ref.{now}
 use mathlib.Core.Path.{_≡_, refl, sym, _∙_}
 use borrow.Author.Needs.{needs}
-use Rattle.ports.proofs.read_declarations.Statement.{statement}
-use Rattle.ports.proofs.read_declarations.Tie as tie
+use Rattle.header.proofs.read_declarations.Statement.{statement}
+use Rattle.header.proofs.read_declarations.Tie as tie
 
 abbrev Inv-loop : tie.InvT-loop
 Inv-loop text at n starts ends flags₀ reg₀ i₀ room₀ flags reg i room = (bind (declarations declarationRoom (portAt text starts ends 0) (portsOf text starts ends (n + 1)) false at (drop at text)) (headWith n) ≡ bind (declarations room (portAt text starts ends 0) (down (portsOf text starts ends (n + 1)) flags) reg i (drop i text)) (headWith n)) × (length flags ≡ inputLimit + 1)
