@@ -46,6 +46,7 @@ fn print_refusal(number: u8, place: usize) {
     print(b"\n");
 }
 
+// The difference, 0 where b is larger.
 fn less(a: usize, b: usize) -> usize {
     if a < b {
         return 0;
