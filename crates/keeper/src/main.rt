@@ -1,4 +1,7 @@
 // keeper LIBRARY BOOK: leaves in the book one entry for each primitive of the library, and goes on where an earlier run was cut.
+mod places;
+mod say;
+
 ghost use Prim.Native.Nat.{_<_, _≤_};
 ghost use lib.ListN.{length};
 ghost use Rattle.keeping.specs.Keeping.{Holds};
@@ -7,7 +10,6 @@ use book::Opened;
 use disk::Loaded;
 use keeping::Counted;
 use keeping::Settled;
-use libc::STDOUT_FILENO;
 
 // Up to which place the file holds the book, or that a write failed.
 pub enum Held {
@@ -26,63 +28,6 @@ pub enum Went {
 pub enum Ran {
     All(usize),
     Stopped,
-}
-
-// ---- what it says
-
-fn print(words: &[u8]) {
-    io::write_all(STDOUT_FILENO, words);
-}
-
-fn print_number(n: usize) {
-    io::print_decimal(STDOUT_FILENO, n as u64);
-}
-
-fn print_refusal(number: u8, place: usize) {
-    print(b"refused ");
-    print_number(base::wide(number));
-    print(b" at ");
-    print_number(place);
-    print(b"\n");
-}
-
-// The difference, 0 where b is larger.
-fn less(a: usize, b: usize) -> usize {
-    if a < b {
-        return 0;
-    }
-    a - b
-}
-
-fn print_entry(done: &[u8], k: usize, total: usize, name: &[u8]) {
-    print(done);
-    print_number(k);
-    print(b" of ");
-    print_number(total);
-    print(b" ");
-    print(name);
-    print(b", ");
-    print_number(less(total, k));
-    print(b" to go\n");
-}
-
-// The entry that stands in the verdict's place is named as it stands.
-fn print_difference(book: &[u8], at: usize, k: usize, name: &[u8]) {
-    print(b"stopped: entry ");
-    print_number(k);
-    print(b" of the book, '");
-    print(text::part(book, at, files::next(book, b'\n', at)));
-    print(b"', is not the verdict of ");
-    print(name);
-    print(b"; nothing is changed\n");
-}
-
-fn print_surplus(entries: usize, total: usize) {
-    print(b"stopped: the book has ");
-    print_number(entries);
-    print(b" entries, the library ");
-    print_number(total);
-    print(b" primitives; nothing is changed\n");
 }
 
 // ---- how an entry is stored
@@ -132,14 +77,14 @@ fn go_on(
     let s = keeping::settle(text, start, area, book, at, good);
     match s {
         Settled::Kept(next, end) => {
-            print_entry(b"kept ", k, total, table::name_in(area));
+            say::entry_done(b"kept ", k, total, table::name_in(area));
             Went::On(next, end)
         }
         Settled::Added(next, end) => {
             let h = store_entry(file, book, at, end);
             match h {
                 Held::To(n) => {
-                    print_entry(b"wrote ", k, total, table::name_in(area));
+                    say::entry_done(b"wrote ", k, total, table::name_in(area));
                     Went::On(next, n)
                 }
                 Held::Failed => {
@@ -149,12 +94,12 @@ fn go_on(
             }
         }
         Settled::Differs => {
-            print_difference(book, at, k, table::name_in(area));
+            say::difference(book, at, k, table::name_in(area));
             Went::Stopped
         }
         Settled::End => Went::Done,
         Settled::Refused(number, place) => {
-            print_refusal(number, place);
+            say::refusal(number, place);
             Went::Stopped
         }
     }
@@ -193,79 +138,16 @@ fn go_through(
     }
 }
 
-// ---- files
-
-// How many bytes of a path name its folder, the last slash among them.
-fn folder_length(path: &[u8]) -> usize {
-    let mut n = path.len();
-    while 0 < n {
-        if path[n - 1] == b'/' {
-            return n;
-        }
-        n -= 1;
-    }
-    0
-}
-
-fn open_folder(path: &[u8]) -> i32 {
-    let n = folder_length(path);
-    if n == 0 {
-        return os::open_read(b".");
-    }
-    os::open_read(text::part(path, 0, n))
-}
-
-// A file that was just made survives a cut once its folder is flushed.
-fn flush_folder(path: &[u8]) -> bool {
-    let folder = open_folder(path);
-    if folder < 0 {
-        return false;
-    }
-    let flushed = libc::fsync(folder) == 0;
-    libc::close(folder);
-    flushed
-}
-
-// Opens the file for reading and writing, and makes it where it is missing.
-fn open_or_create(path: &[u8]) -> i32 {
-    let file = os::open_update(path);
-    if 0 <= file {
-        return file;
-    }
-    if os::errno() != libc::ENOENT {
-        return file;
-    }
-    let made = os::create(path);
-    if made < 0 {
-        return made;
-    }
-    libc::close(made);
-    os::open_update(path)
-}
-
-// Takes away the torn bytes that reach past the last entry.
-fn take_away(file: i32, length: usize) -> bool {
-    if base::BOOK < length {
-        return false;
-    }
-    if libc::ftruncate(file, length as i64) != 0 {
-        return false;
-    }
-    libc::fsync(file) == 0
-}
-
 // ---- the whole
 
 fn finish(file: i32, path: &[u8], length: usize, stated: usize, total: usize) {
     if length < stated {
-        if !take_away(file, length) {
+        if !places::take_away(file, length) {
             os::fail(path);
             return;
         }
     }
-    print(b"all ");
-    print_number(total);
-    print(b" entries stand\n");
+    say::all_stand(total);
 }
 
 fn keep_from(
@@ -279,7 +161,7 @@ fn keep_from(
     good: usize,
 ) {
     if good == 0 {
-        if !flush_folder(path) {
+        if !places::flush_folder(path) {
             os::fail(path);
             return;
         }
@@ -306,13 +188,13 @@ fn keep_in(
     match o {
         Opened::Book(g) => {
             if total < g.entries {
-                print_surplus(g.entries, total);
+                say::surplus(g.entries, total);
                 return;
             }
             keep_from(file, path, text, total, area, book, stated, g.good);
         }
         Opened::Refused(number, place) => {
-            print_refusal(number, place);
+            say::refusal(number, place);
         }
     }
 }
@@ -333,7 +215,7 @@ fn keep_file(file: i32, path: &[u8], text: &[u8], total: usize, area: &mut [u8])
 
 // What has no places, as a pipe, would be waited for.
 fn keep_at(path: &[u8], text: &[u8], total: usize, area: &mut [u8]) {
-    let file = open_or_create(path);
+    let file = places::open_or_create(path);
     if file < 0 {
         os::fail(path);
         return;
@@ -355,7 +237,7 @@ fn keep_text(text: &[u8], path: &[u8]) {
             keep_at(path, text, total, &mut area);
         }
         Counted::Refused(number, place) => {
-            print_refusal(number, place);
+            say::refusal(number, place);
         }
     }
 }
@@ -370,21 +252,17 @@ fn keep(library: &[u8], path: &[u8]) {
     keep_text(&text[..n], path);
 }
 
-fn print_use() {
-    io::write_all(libc::STDERR_FILENO, b"use: keeper LIBRARY BOOK\n");
-}
-
 fn main() {
     let mut library = io::buffer();
     let n = os::arg(1, &mut library);
     if os::errno() != 0 {
-        print_use();
+        say::how_to_use();
         return;
     }
     let mut path = io::buffer();
     let m = os::arg(2, &mut path);
     if os::errno() != 0 {
-        print_use();
+        say::how_to_use();
         return;
     }
     keep(&library[..n], &path[..m]);
