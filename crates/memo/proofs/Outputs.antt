@@ -1,12 +1,10 @@
 -- The two orders of a pair, worked out from the masks, give what the orders of the definition give. Assumes nothing.
-use Prim.Native.Nat.{ℕ, zero, suc, _+_, _-_, _*_, _/_, _%_, _^_, _<_, _≤_}
+use Prim.Native.Nat.{ℕ, suc, _-_, _/_, _%_, _^_, _<_}
 use mathlib.Core.Path.{_≡_, refl, sym, ap, _∙_}
 use mathlib.Core.Logic.{_≢_}
-use mathlib.Core.Bool.{true, _||_, or-true}
 use mathlib.Core.List.{List}
 use native.Mathlib.Omega.{arith}
 use lib.Bits.{bitAnd}
-use lib.Dec.{eqb}
 use borrow.Author.Tests.{eq-eqb}
 use Rattle.value.specs.declared.Ternary.{Ternary}
 use Rattle.value.specs.Value.{rankOf, valueOf}
@@ -21,10 +19,9 @@ use Rattle.orders.proofs.Candidates.{value-rank, rank-value, rank-low, vector-n
 use Rattle.orders.proofs.Digits as digits
 use Rattle.evaluation.specs.Step.{stepOf}
 use Rattle.evaluation.proofs.Laws.{laws}
-use Rattle.memo.specs.Memo.{kept}
 use Rattle.memo.specs.Rows.{cells, allRows, cellAt, restOf, entryOf, Small}
 use Rattle.memo.specs.Pair.{othersOf, firstThen, secondThen}
-use Rattle.memo.proofs.Entries.{entry-right}
+use Rattle.memo.proofs.Entries.{kept, entry-right}
 use Rattle.memo.proofs.Others.{others-comm, others-put, rest-others, digit-same, digit-other}
 
 -- ---- an order of two inputs is two steps, whatever the step
