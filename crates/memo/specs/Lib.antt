@@ -1,3 +1,4 @@
-pub mod Memo
 pub mod Rows
 pub mod Pair
+pub mod Offers
+pub mod Answers
