@@ -54,7 +54,7 @@ pub mask-ext : (f g : ℕ → Bool) (n : ℕ) → ((k : ℕ) → f k ≡ g k) �
 unfolding maskOf
 mask-ext f g n e = ext-from f g e 0 n
 
-mask-lt : (f : ℕ → Bool) (i m : ℕ) → maskFrom f i m < 2 ^ m
+pub mask-lt : (f : ℕ → Bool) (i m : ℕ) → maskFrom f i m < 2 ^ m
 unfolding maskFrom
 mask-lt f i zero = omega arith
 mask-lt f i (suc m) = rw (pow-suc 2 m) (omega (arith, mask-lt f (suc i) m, digit-small (f i)))

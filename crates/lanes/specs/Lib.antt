@@ -1,0 +1,4 @@
+pub mod Words
+pub mod Columns
+pub mod Lanes
+pub mod Paths
