@@ -11,7 +11,7 @@ use borrow.Author.Tests.{eqb-true, eqb-false}
 use Rattle.value.specs.Value.{rankOf, valueOf}
 use Rattle.symbol.specs.Stored.{resultOf}
 use Rattle.table.specs.Table.{Table, rowAt}
-use Rattle.lanes.specs.Lanes.{Low, Outputs}
+use Rattle.planes.specs.Planes.{Low, Outputs}
 
 zeros : (n c : ℕ) → getD {A = ℕ} (replicate n 0) c 0 ≡ 0
 zeros zero c = refl

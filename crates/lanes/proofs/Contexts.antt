@@ -12,12 +12,13 @@ use Rattle.base.proofs.Bools.{lt-or-ge}
 use Rattle.table.specs.Table.{Table}
 use Rattle.memo.specs.Rows.{maskOf, allRows, cells, cellAt}
 use Rattle.memo.specs.Pair.{othersOf}
-use Rattle.lanes.specs.Words.{bit}
+use Rattle.planes.specs.Words.{bit}
 use Rattle.lanes.specs.Columns.{topOf, matching, laneAt, Lanes}
-use Rattle.lanes.specs.Lanes.{laneRows, Given, OuterAgree, PairAgrees}
-use Rattle.lanes.proofs.Bits.{bit-and, bit-ext, bit-past}
-use Rattle.lanes.proofs.Answers.{row-in}
-use Rattle.lanes.proofs.Planes.{last-of}
+use Rattle.planes.specs.Planes.{laneRows, Given}
+use Rattle.lanes.specs.Pairs.{OuterAgree, PairAgrees}
+use Rattle.planes.proofs.Bits.{bit-and, bit-ext, bit-past}
+use Rattle.planes.proofs.Answers.{row-in}
+use Rattle.planes.proofs.Planes.{last-of}
 use Rattle.lanes.proofs.Tops.{matching-bit, matching-past}
 
 -- the digits of the columns other than i and j

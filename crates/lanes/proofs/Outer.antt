@@ -9,7 +9,8 @@ use lib.Dec.{eqb}
 use borrow.Author.Tests.{eq-eqb, ne-eqb}
 use Rattle.memo.specs.Rows.{cellAt}
 use Rattle.lanes.specs.Columns.{topOf, matching}
-use Rattle.lanes.specs.Lanes.{LanesAgree, OuterAgree}
+use Rattle.planes.specs.Planes.{LanesAgree}
+use Rattle.lanes.specs.Pairs.{OuterAgree}
 use Rattle.lanes.proofs.Tops.{matching-top, matching-base}
 
 module _ (s : List (List ℕ)) (outs g : List ℕ) (n i j : ℕ) where

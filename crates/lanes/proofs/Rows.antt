@@ -10,11 +10,11 @@ use Rattle.base.specs.Search.{every}
 use Rattle.base.proofs.Bools.{clash}
 use Rattle.base.proofs.Search.{every-at}
 use Rattle.memo.specs.Rows.{cellAt}
-use Rattle.lanes.specs.Words.{bit}
+use Rattle.planes.specs.Words.{bit}
 use Rattle.lanes.specs.Columns.{laneAt, lanesIn, LaneRow}
-use Rattle.lanes.proofs.Bits.{bit-and, bit-or, bit-zero}
-use Rattle.lanes.proofs.Planes.{all-lanes}
-use Rattle.lanes.proofs.Composed.{picks}
+use Rattle.planes.proofs.Bits.{bit-and, bit-or, bit-zero}
+use Rattle.planes.proofs.Planes.{all-lanes}
+use Rattle.planes.proofs.Composed.{picks}
 
 word-bit : (b : Bool) (p l : ℕ) → bit (cond b p 0) l ≡ (bit p l && b)
 word-bit true p l = go (bit p l)

@@ -8,10 +8,10 @@ use lib.Bits.{bitAnd}
 use lib.Dec.{eqb}
 use borrow.Author.Tests.{eqb-true, eqb-false, eq-eqb, ne-eqb, not-true, not-false}
 use Rattle.memo.specs.Rows.{cellAt}
-use Rattle.lanes.specs.Words.{bit}
+use Rattle.planes.specs.Words.{bit}
 use Rattle.lanes.specs.Columns.{topOf, matching, laneAt}
-use Rattle.lanes.proofs.Bits.{bit-and}
-use Rattle.lanes.proofs.Planes.{swap}
+use Rattle.planes.proofs.Bits.{bit-and}
+use Rattle.planes.proofs.Planes.{swap}
 
 and-true : (x : Bool) → x ≡ (x && true)
 and-true true = refl

@@ -11,7 +11,7 @@ use Rattle.lanes.proofs.Outer.{outer-none, outer-three, outer-same}
 use Rattle.lanes.proofs.outer_agree.Reads as outer-agree
 use Rattle.lanes.proofs.outer_agree.Kinds as outer-agree-kinds
 use Rattle.lanes.proofs.+outer_agree.Lts-outer_agree as outer-agree-lts
-use Rattle.lanes.proofs.lanes_agree.Reads as lanes-agree-reads
+use Rattle.planes.proofs.lanes_agree.Reads as lanes-agree-reads
 use Rattle.lanes.proofs.top_of.Reads as top-of-reads
 use Rattle.lanes.proofs.+outer_agree.{statement}
 use Rattle.lanes.proofs.+outer_agree.Tie.{close}

@@ -1,5 +1,5 @@
 use native.Mathlib.Omega.{arith}
-use Rattle.lanes.proofs.Bits.{shift-in, shift-out}
+use Rattle.planes.proofs.Bits.{shift-in, shift-out}
 use Rattle.lanes.proofs.lanes_of.Statement.{statement}
 use Rattle.lanes.proofs.lanes_of.Tie as tie
 
