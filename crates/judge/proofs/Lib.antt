@@ -6,3 +6,4 @@ pub mod Squares
 pub mod Sounds
 pub mod Lending
 pub mod Checked
+pub mod Agreeing

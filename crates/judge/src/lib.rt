@@ -4,6 +4,7 @@ ghost use Prim.Native.Nat.{ℕ, _*_, _^_, _<_, _≤_};
 ghost use lib.ListN.{getD};
 ghost use Rattle.base.specs.Listed.{listed};
 ghost use Rattle.table.specs.Table.{Table};
+ghost use Rattle.planes.specs.Planes.{Low};
 ghost use Rattle.pair.specs.Search.{Given};
 ghost use Rattle.judge.specs.Search.{pairFirst, witnessIn, findingIn, yesIn, squareIn};
 ghost use Rattle.judge.specs.Judge.{squareFor};
@@ -22,15 +23,15 @@ pub enum Judged {
 fn pair_first(
     s: &[[u64; memo::OFFERS]; memo::COLUMNS],
     all: u64,
-    kinds: &[u8; base::ROWS],
+    outs: &[u8; planes::OUTPUTS],
     n: usize,
     m: usize,
     c: usize,
     i: usize,
     j: usize,
 ) -> usize
-    requires { ⌜ (n ≤ 9) × (m ≤ 64) × (c ≡ 3 ^ n * 27) × (i < 9) ⌝ }
-    ensures { λ r. ⌜ ((t : Table) → Given t (now (s .entry)) all (now (kinds .entry)) n m → r ≡ pairFirst t i j) × (r < c → (i < j) × (j < n)) ⌝ }
+    requires { ⌜ (n ≤ 9) × (m ≤ 64) × (c ≡ 3 ^ n * 27) × (i < 9) × Low (now outs) ⌝ }
+    ensures { λ r. ⌜ ((t : Table) → Given t (now (s .entry)) all (now (outs .entry)) n m → r ≡ pairFirst t i j) × (r < c → (i < j) × (j < n)) ⌝ }
 {
     if j < i + 1 {
         return c;
@@ -38,13 +39,16 @@ fn pair_first(
     if n <= j {
         return c;
     }
-    pair::first_difference(s, all, kinds, n, m, i, j)
+    if lanes::pair_agrees(s, outs, all, n, m, i, j) {
+        return c;
+    }
+    pair::first_difference(s, all, outs, n, m, i, j)
 }
 
 fn witness_at(
     s: &[[u64; memo::OFFERS]; memo::COLUMNS],
     all: u64,
-    kinds: &[u8; base::ROWS],
+    outs: &[u8; planes::OUTPUTS],
     n: usize,
     m: usize,
     i: usize,
@@ -52,14 +56,14 @@ fn witness_at(
     r: usize,
 ) -> Witness
     requires { ⌜ (n ≤ 9) × (m ≤ 64) × (i < n) × (j < n) ⌝ }
-    ensures { λ w. ⌜ ((t : Table) → Given t (now (s .entry)) all (now (kinds .entry)) n m → w ≡ witnessIn t i j r) ⌝ }
+    ensures { λ w. ⌜ ((t : Table) → Given t (now (s .entry)) all (now (outs .entry)) n m → w ≡ witnessIn t i j r) ⌝ }
 {
     let v = r / 27;
     let x = r / 9 % 3;
     let y = r / 3 % 3;
     let o = r % 3;
-    let first_output = pair::output_at(s, all, kinds, n, m, i, j, v, x, y, o);
-    let second_output = pair::output_at(s, all, kinds, n, m, j, i, v, y, x, o);
+    let first_output = pair::output_at(s, all, outs, n, m, i, j, v, x, y, o);
+    let second_output = pair::output_at(s, all, outs, n, m, j, i, v, y, x, o);
     Witness {
         first: (i + 1) as u8,
         second: (j + 1) as u8,
@@ -75,21 +79,21 @@ fn witness_at(
 fn finding(
     s: &[[u64; memo::OFFERS]; memo::COLUMNS],
     all: u64,
-    kinds: &[u8; base::ROWS],
+    outs: &[u8; planes::OUTPUTS],
     n: usize,
     m: usize,
 ) -> Finding
-    requires { ⌜ (n ≤ 9) × (m ≤ 64) ⌝ }
-    ensures { λ r. ⌜ ((t : Table) → Given t (now (s .entry)) all (now (kinds .entry)) n m → r ≡ findingIn t) ⌝ }
+    requires { ⌜ (n ≤ 9) × (m ≤ 64) × Low (now outs) ⌝ }
+    ensures { λ r. ⌜ ((t : Table) → Given t (now (s .entry)) all (now (outs .entry)) n m → r ≡ findingIn t) ⌝ }
 {
     let c = pair::power(n) * 27;
     let mut p: usize = 0;
     while p < base::INPUTS * n {
         let i = p / base::INPUTS;
         let j = p % base::INPUTS;
-        let r = pair_first(s, all, kinds, n, m, c, i, j);
+        let r = pair_first(s, all, outs, n, m, c, i, j);
         if r < c {
-            return Finding::Dependent(witness_at(s, all, kinds, n, m, i, j, r));
+            return Finding::Dependent(witness_at(s, all, outs, n, m, i, j, r));
         }
         p += 1;
     }
@@ -100,7 +104,7 @@ fn finding(
 fn yes_at(
     s: &[[u64; memo::OFFERS]; memo::COLUMNS],
     all: u64,
-    kinds: &[u8; base::ROWS],
+    outs: &[u8; planes::OUTPUTS],
     n: usize,
     m: usize,
     c: usize,
@@ -108,32 +112,32 @@ fn yes_at(
     i: usize,
     j: usize,
 ) -> bool
-    requires { ⌜ (n ≤ 9) × (m ≤ 64) × (c ≡ 3 ^ n * 27) × (i < 9) × (j < 9) ⌝ }
-    ensures { λ r. ⌜ ((t : Table) → Given t (now (s .entry)) all (now (kinds .entry)) n m → ((k : ℕ) → k < i → getD (now (done .entry)) k [] ≡ listed (yesIn t k) 9) → r ≡ yesIn t i j) ⌝ }
+    requires { ⌜ (n ≤ 9) × (m ≤ 64) × (c ≡ 3 ^ n * 27) × (i < 9) × (j < 9) × Low (now outs) ⌝ }
+    ensures { λ r. ⌜ ((t : Table) → Given t (now (s .entry)) all (now (outs .entry)) n m → ((k : ℕ) → k < i → getD (now (done .entry)) k [] ≡ listed (yesIn t k) 9) → r ≡ yesIn t i j) ⌝ }
 {
     if j < i {
         return done[j][i];
     }
-    c <= pair_first(s, all, kinds, n, m, c, i, j)
+    c <= pair_first(s, all, outs, n, m, c, i, j)
 }
 
 fn square_row(
     s: &[[u64; memo::OFFERS]; memo::COLUMNS],
     all: u64,
-    kinds: &[u8; base::ROWS],
+    outs: &[u8; planes::OUTPUTS],
     n: usize,
     m: usize,
     c: usize,
     done: &[[bool; base::INPUTS]; base::INPUTS],
     i: usize,
 ) -> [bool; base::INPUTS]
-    requires { ⌜ (n ≤ 9) × (m ≤ 64) × (c ≡ 3 ^ n * 27) × (i < 9) ⌝ }
-    ensures { λ r. ⌜ ((t : Table) → Given t (now (s .entry)) all (now (kinds .entry)) n m → ((k : ℕ) → k < i → getD (now (done .entry)) k [] ≡ listed (yesIn t k) 9) → r ≡ listed (yesIn t i) 9) ⌝ }
+    requires { ⌜ (n ≤ 9) × (m ≤ 64) × (c ≡ 3 ^ n * 27) × (i < 9) × Low (now outs) ⌝ }
+    ensures { λ r. ⌜ ((t : Table) → Given t (now (s .entry)) all (now (outs .entry)) n m → ((k : ℕ) → k < i → getD (now (done .entry)) k [] ≡ listed (yesIn t k) 9) → r ≡ listed (yesIn t i) 9) ⌝ }
 {
     let mut row = [true; base::INPUTS];
     let mut j: usize = 0;
     while j < base::INPUTS {
-        row[j] = yes_at(s, all, kinds, n, m, c, done, i, j);
+        row[j] = yes_at(s, all, outs, n, m, c, done, i, j);
         j += 1;
     }
     row
@@ -142,18 +146,18 @@ fn square_row(
 fn square_at(
     s: &[[u64; memo::OFFERS]; memo::COLUMNS],
     all: u64,
-    kinds: &[u8; base::ROWS],
+    outs: &[u8; planes::OUTPUTS],
     n: usize,
     m: usize,
 ) -> [[bool; base::INPUTS]; base::INPUTS]
-    requires { ⌜ (n ≤ 9) × (m ≤ 64) ⌝ }
-    ensures { λ r. ⌜ ((t : Table) → Given t (now (s .entry)) all (now (kinds .entry)) n m → r ≡ squareIn t) ⌝ }
+    requires { ⌜ (n ≤ 9) × (m ≤ 64) × Low (now outs) ⌝ }
+    ensures { λ r. ⌜ ((t : Table) → Given t (now (s .entry)) all (now (outs .entry)) n m → r ≡ squareIn t) ⌝ }
 {
     let c = pair::power(n) * 27;
     let mut q = [[true; base::INPUTS]; base::INPUTS];
     let mut i: usize = 0;
     while i < base::INPUTS {
-        let row = square_row(s, all, kinds, n, m, c, &q, i);
+        let row = square_row(s, all, outs, n, m, c, &q, i);
         q[i] = row;
         i += 1;
     }
@@ -169,8 +173,8 @@ pub fn judge(area: &[u8]) -> Judged
     }
     let s = memo::cells_of(area);
     let all = memo::all_rows(area);
-    let kinds = memo::kinds_of(area);
-    Judged::Found(finding(&s, all, &kinds, table::inputs(area), table::rows(area)))
+    let outs = lanes::outputs(area);
+    Judged::Found(finding(&s, all, &outs, table::inputs(area), table::rows(area)))
 }
 
 // The pairwise answers of a lent table; all false where it is not well formed.
@@ -182,6 +186,6 @@ pub fn square(area: &[u8]) -> [[bool; base::INPUTS]; base::INPUTS]
     }
     let s = memo::cells_of(area);
     let all = memo::all_rows(area);
-    let kinds = memo::kinds_of(area);
-    square_at(&s, all, &kinds, table::inputs(area), table::rows(area))
+    let outs = lanes::outputs(area);
+    square_at(&s, all, &outs, table::inputs(area), table::rows(area))
 }

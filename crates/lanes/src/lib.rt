@@ -3,7 +3,8 @@ ghost use mathlib.Core.Bool.{true, cond};
 ghost use Prim.Native.Nat.{ℕ, _-_, _/_, _%_, _<_, _≤_};
 ghost use Rattle.value.specs.Value.{rankOf, valueOf};
 ghost use Rattle.symbol.specs.Stored.{resultOf};
-ghost use Rattle.table.specs.Table.{rowAt};
+ghost use lib.ListN.{length};
+ghost use Rattle.table.specs.Table.{Table, rowAt};
 ghost use Rattle.table.specs.Area.{decode};
 ghost use Rattle.memo.specs.Rows.{Small, allRows};
 ghost use Rattle.planes.specs.Words.{bit};
@@ -154,22 +155,22 @@ fn before(t: usize) -> usize
     if t == 0 { 0 } else { t - 1 }
 }
 
-// True where the two orders of columns i and j agree whatever values the others have; false tells nothing.
+// True where the two orders of columns i and j agree whatever values the others have, for a table of n inputs and m rows; false tells nothing.
 pub fn pair_agrees(
-    a: &[u8],
     s: &[[u64; memo::OFFERS]; memo::COLUMNS],
     outs: &[u8; planes::OUTPUTS],
     all: u64,
+    n: usize,
+    m: usize,
     i: usize,
     j: usize,
 ) -> bool
-    requires { ⌜ Given (decode (now a)) (now s) (now outs) (decode (now a) .inputs) i j × (all ≡ allRows (decode (now a))) ⌝ }
-    ensures { λ r. ⌜ (r ≡ true → PairAgrees (decode (now (a .entry))) i j) ⌝ }
+    requires { ⌜ (n ≤ 9) × (m ≤ 64) × (i < n) × (j < n) × Low (now outs) ⌝ }
+    ensures { λ r. ⌜ (r ≡ true → (t : Table) → Given t (now (s .entry)) (now (outs .entry)) n i j → all ≡ allRows t → m ≡ length (t .rows) → PairAgrees t i j) ⌝ }
 {
-    let n = table::inputs(a);
     let t = top_of(i, j, n);
     let u = top_of(i, j, before(t));
     let v = top_of(i, j, before(u));
-    let g = lanes(s, t, u, v, table::rows(a));
+    let g = lanes(s, t, u, v, m);
     outer_agree(&g, outs, s, n, i, j, before(v), all)
 }

@@ -167,12 +167,3 @@ unfolding cellRow
 behind t k h =
     listed-is (offeredRows t k) 12 (listed (offeredRows t (t .inputs)) 12) 0 (listed-length (offeredRows t (t .inputs)) 12)
     (λ c b. behind-at t k c h ∙ sym (listed-at (offeredRows t (t .inputs)) 12 c 0 b))
-
--- ---- what the rows answer, row by row
-
-pub told-more : (s : List ℕ) (g : ℕ → ℕ) (i x : ℕ) → i < length s → x ≡ g i → ((k : ℕ) → k < i → getD s k 0 ≡ g k) → (k : ℕ) → k < i + 1 → getD (set s i x) k 0 ≡ g k
-told-more s g i x l e w k h =
-    ⊎-elim
-    (λ (q : k ≡ i). rw (q, getD-set-same s i x 0 l) e)
-    (λ (g : k < i). getD-set-other s i k x 0 (λ q. omega arith) ∙ w k g)
-    (eq-or-lt-of-le {n = k} {m = i} (omega arith))

@@ -1,4 +1,3 @@
 pub mod Rows
 pub mod Pair
 pub mod Offers
-pub mod Answers

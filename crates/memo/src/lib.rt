@@ -3,11 +3,9 @@ ghost use Prim.Native.Nat.{ℕ, _+_, _*_, _/_, _%_, _^_, _<_};
 ghost use lib.ListN.{length, getD};
 ghost use Rattle.base.proofs.Patched.{Patched};
 ghost use Rattle.table.specs.Area.{decode};
-ghost use Rattle.memo.specs.Answers.{kindOf, Kinds};
 ghost use Rattle.memo.specs.Offers.{levelMask, edgeMask, offerMask};
 ghost use Rattle.memo.specs.Rows.{columnOf, allRows, cellRow, cells, Small};
 use symbol::Level;
-use symbol::Output;
 use symbol::Symbol;
 
 // What a column may be offered: three values and nine changes.
@@ -128,30 +126,4 @@ pub fn all_rows(a: &[u8]) -> u64
         m = m * 2 + 1;
     }
     m
-}
-
-fn kind_of(o: Output) -> u8
-    ensures { λ r. ⌜ r ≡ kindOf o ⌝ }
-{
-    match o {
-        Output::Out0 => 0,
-        Output::Out1 => 1,
-        Output::Outx => 2,
-        Output::Old => 3,
-    }
-}
-
-// What each row answers: a value's number, or 3 for the old output.
-pub fn kinds_of(a: &[u8]) -> [u8; base::ROWS]
-    requires { ⌜ Small (decode (now a)) ⌝ }
-    ensures { λ r. ⌜ Kinds (decode (now (a .entry))) r ⌝ }
-{
-    let m = table::rows(a);
-    let mut s = [0u8; base::ROWS];
-    let mut i: usize = 0;
-    while i < m {
-        s[i] = kind_of(table::output_in(a, i));
-        i += 1;
-    }
-    s
 }

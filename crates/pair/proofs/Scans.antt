@@ -55,7 +55,7 @@ weight-some n i w e = rw e (power-pos (n - (i + 1)))
 weight-is : (t : Table) (n i w : ℕ) → n ≡ t .inputs → w ≡ 3 ^ (n - (i + 1)) → w ≡ weight t i
 weight-is t n i w en e = e ∙ rw (en, add-one i)
 
-module _ (t : Table) (s : List (List ℕ)) (kinds : List ℕ) (all n m : ℕ) (G : Given t s all kinds n m) (i j wi wj : ℕ) (ei : wi ≡ 3 ^ (n - (i + 1))) (ej : wj ≡ 3 ^ (n - (j + 1))) where
+module _ (t : Table) (s : List (List ℕ)) (outs : List ℕ) (all n m : ℕ) (G : Given t s all outs n m) (i j wi wj : ℕ) (ei : wi ≡ 3 ^ (n - (i + 1))) (ej : wj ≡ 3 ^ (n - (j + 1))) where
   pub first-at : (q r : ℕ) → q ≡ 3 ^ n → r ≡ first (q * 27) (differsIn t s all n i j wi wj) → r ≡ firstAt t i j
   unfolding firstAt differsAt
   first-at q r eq e = rw (eq, weight-is t n i wi (G .inputs-are) ei, weight-is t n j wj (G .inputs-are) ej, G .known .cells-are, G .all-are, G .inputs-are) at e

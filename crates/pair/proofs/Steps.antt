@@ -10,14 +10,12 @@ use lib.ListN.{length, getD}
 use borrow.Author.Tests.{lt-ltb, le-ltb, eq-eqb, ne-eqb}
 use Rattle.base.specs.Limits.{inputLimit}
 use Rattle.value.specs.Value.{rankOf, valueOf}
-use Rattle.symbol.specs.declared.Output.{Output}
-use Rattle.symbol.specs.declared.Output.the-variants.{Out0, Out1, Outx, Old}
 use Rattle.symbol.specs.Stored.{resultOf}
 use Rattle.table.specs.Table.{Table, rowAt}
-use Rattle.orders.proofs.Candidates.{rank-value}
+use Rattle.orders.proofs.Candidates.{rank-low}
 use Rattle.evaluation.specs.Step.{answerOr}
 use Rattle.memo.specs.Rows.{lowest, columnOf, offeredRows, cells, cellAt, outBy, entryOf}
-use Rattle.memo.specs.Answers.{kindOf, Kinds}
+use Rattle.planes.specs.Planes.{Outputs}
 use Rattle.memo.specs.Pair.{othersOf}
 use Rattle.memo.proofs.Entries.{cell-is}
 use Rattle.pair.specs.Search.{Known, outOf}
@@ -40,31 +38,19 @@ module _ (s : List (List ℕ)) (all i j : ℕ) where
 
 -- ---- what a row answers
 
-pub out-low : (k o : ℕ) → o < 3 → outOf k o < 3
-unfolding outOf
-out-low zero o h = omega arith
-out-low (suc zero) o h = omega arith
-out-low (suc (suc zero)) o h = omega arith
-out-low (suc (suc (suc k))) o h = rw (le-ltb (suc (suc (suc k))) 3 (omega arith)) h
+module _ (t : Table) (outs : List ℕ) (m : ℕ) (K : Outputs t outs) (em : m ≡ length (t .rows)) where
+  row-result : (i o : ℕ) → i < m → o < 3 → outOf (getD outs (i * 3 + o) 0) ≡ rankOf (resultOf (rowAt t i .output) (valueOf o))
+  unfolding outOf
+  row-result i o h l =
+      rw (K .right i o (omega arith) l, lt-ltb (rankOf (resultOf (rowAt t i .output) (valueOf o))) 3 (rank-low (resultOf (rowAt t i .output) (valueOf o))))
 
-kind-result : (q : Output) (o : ℕ) → o < 3 → outOf (kindOf q) o ≡ rankOf (resultOf q (valueOf o))
-unfolding outOf kindOf resultOf rankOf
-kind-result Out0 o h = refl
-kind-result Out1 o h = refl
-kind-result Outx o h = refl
-kind-result Old o h = sym (rank-value o h)
-
-module _ (t : Table) (kinds : List ℕ) (m : ℕ) (K : Kinds t kinds) (em : m ≡ length (t .rows)) where
-  row-result : (i o : ℕ) → i < m → o < 3 → outOf (getD kinds i 0) o ≡ rankOf (resultOf (rowAt t i .output) (valueOf o))
-  row-result i o h l = rw (K .told i (omega arith)) (kind-result (rowAt t i .output) o l)
-
-  pub by-level : (level edge o i r : ℕ) → o < 3 → i ≡ lowest m level → i < m → r ≡ outOf (getD kinds i 0) o → r ≡ rankOf (outBy t level edge (valueOf o))
+  pub by-level : (level edge o i r : ℕ) → o < 3 → i ≡ lowest m level → i < m → r ≡ outOf (getD outs (i * 3 + o) 0) → r ≡ rankOf (outBy t level edge (valueOf o))
   unfolding outBy answerOr
   by-level level edge o i r l e h p =
       let z : lowest (length (t .rows)) level ≡ i = sym (e ∙ rw em) in
       rw (z, lt-ltb i (length (t .rows)) (omega arith)) (p ∙ row-result i o h l)
 
-  pub by-edge : (level edge o i k r : ℕ) → o < 3 → i ≡ lowest m level → m ≤ i → k ≡ lowest m edge → k < m → r ≡ outOf (getD kinds k 0) o →
+  pub by-edge : (level edge o i k r : ℕ) → o < 3 → i ≡ lowest m level → m ≤ i → k ≡ lowest m edge → k < m → r ≡ outOf (getD outs (k * 3 + o) 0) →
       r ≡ rankOf (outBy t level edge (valueOf o))
   unfolding outBy answerOr
   by-edge level edge o i k r l e g f h p =
@@ -89,7 +75,7 @@ state-rows t k o h = rw (le-ltb k (t .inputs) h, le-ltb (t .inputs) (t .inputs) 
 state-column : (t : Table) (o : ℕ) → t .inputs ≤ inputLimit → o < 3 → cellAt (cells t) inputLimit o ≡ cellAt (cells t) (t .inputs) o
 state-column t o h l = cell-is t inputLimit o (omega arith) (omega arith) ∙ state-rows t inputLimit o h ∙ sym (cell-is t (t .inputs) o h (omega arith))
 
-module _ (t : Table) (s : List (List ℕ)) (kinds : List ℕ) (m : ℕ) (W : Known t s kinds m) where
+module _ (t : Table) (s : List (List ℕ)) (outs : List ℕ) (m : ℕ) (W : Known t s outs m) where
   pub entry-stays : (j rest d x o : ℕ) → x ≡ d → o ≡ entryOf t s j rest d x o
   unfolding entryOf
   entry-stays j rest d x o e = rw (eq-eqb x d e)

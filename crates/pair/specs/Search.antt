@@ -9,25 +9,25 @@ use Rattle.base.specs.Search.{first}
 use Rattle.table.specs.Table.{Table}
 use Rattle.orders.specs.Verdict.{candidates}
 use Rattle.memo.specs.Rows.{cells, allRows, Small}
-use Rattle.memo.specs.Answers.{Kinds}
+use Rattle.planes.specs.Planes.{Outputs}
 use Rattle.memo.specs.Pair.{othersOf, firstThen, secondThen}
 
--- what is worked out of a table once: the masks s, what each of its m rows answers
-pub record Known (t : Table) (s : List (List ℕ)) (kinds : List ℕ) (m : ℕ) : Type 0 where
+-- what is worked out of a table once: the masks s, and what each of its m rows answers for each old output
+pub record Known (t : Table) (s : List (List ℕ)) (outs : List ℕ) (m : ℕ) : Type 0 where
   pub small : Small t
   pub cells-are : s ≡ cells t
-  pub kinds-are : Kinds t kinds
+  pub outputs-are : Outputs t outs
   pub rows-are : m ≡ length (t .rows)
 
 -- and the set of all its rows, and the number of its inputs
-pub record Given (t : Table) (s : List (List ℕ)) (all : ℕ) (kinds : List ℕ) (n m : ℕ) : Type 0 where
-  pub known : Known t s kinds m
+pub record Given (t : Table) (s : List (List ℕ)) (all : ℕ) (outs : List ℕ) (n m : ℕ) : Type 0 where
+  pub known : Known t s outs m
   pub all-are : all ≡ allRows t
   pub inputs-are : n ≡ t .inputs
 
--- what a row of this kind answers where the old output is value number o
-unfoldable pub outOf : ℕ → ℕ → ℕ
-outOf k o = cond (ltb k 3) k o
+-- a value number as it stands, else that of x
+unfoldable pub outOf : ℕ → ℕ
+outOf k = cond (ltb k 3) k 2
 
 -- case c of the 27 of a vector: the two columns have the values a and b in it, and `rest` are the rows that match in the others
 unfoldable pub differsBy : Table → List (List ℕ) → ℕ → ℕ → ℕ → ℕ → ℕ → ℕ → Bool

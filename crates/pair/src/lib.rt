@@ -1,14 +1,14 @@
 ghost use mathlib.Core.Path.{_≡_};
 ghost use mathlib.Core.Logic.{_≢_};
 ghost use mathlib.Core.Bool.{true};
-ghost use Prim.Native.Nat.{ℕ, _*_, _^_, _<_, _≤_};
+ghost use Prim.Native.Nat.{ℕ, _+_, _*_, _^_, _<_, _≤_};
 ghost use lib.Dec.{eqb};
 ghost use lib.ListN.{length, getD};
 ghost use Rattle.base.specs.Search.{first};
 ghost use Rattle.value.specs.Value.{rankOf, valueOf};
 ghost use Rattle.table.specs.Table.{Table};
 ghost use Rattle.memo.specs.Rows.{lowest, cellAt, outBy, entryOf};
-ghost use Rattle.memo.specs.Answers.{Kinds};
+ghost use Rattle.planes.specs.Planes.{Outputs};
 ghost use Rattle.memo.specs.Pair.{othersOf, firstThen, secondThen};
 ghost use Rattle.pair.specs.Search.{Known, Given, outOf, differsBy, differsIn, firstAt, outputAt};
 
@@ -54,26 +54,26 @@ fn lowest_of(n: usize, m: u64) -> usize
 }
 
 // What row i answers where the old output is value number o.
-fn out_at(kinds: &[u8; base::ROWS], i: usize, o: usize) -> usize
+fn out_at(outs: &[u8; planes::OUTPUTS], i: usize, o: usize) -> usize
     requires { ⌜ (i < 64) × (o < 3) ⌝ }
-    ensures { λ r. ⌜ (r ≡ outOf (getD (now (kinds .entry)) i 0) o) × (r < 3) ⌝ }
+    ensures { λ r. ⌜ (r ≡ outOf (getD (now (outs .entry)) (i * 3 + o) 0)) × (r < 3) ⌝ }
 {
-    let k = base::wide(kinds[i]);
-    if k < 3 { k } else { o }
+    let k = base::wide(outs[i * 3 + o]);
+    if k < 3 { k } else { 2 }
 }
 
 // What the rows answer: the lowest level row, else the lowest edge row, else x.
-fn out_by(kinds: &[u8; base::ROWS], m: usize, level: u64, edge: u64, o: usize) -> usize
+fn out_by(outs: &[u8; planes::OUTPUTS], m: usize, level: u64, edge: u64, o: usize) -> usize
     requires { ⌜ (m ≤ 64) × (o < 3) ⌝ }
-    ensures { λ r. ⌜ ((t : Table) → Kinds t (now (kinds .entry)) → m ≡ length (t .rows) → r ≡ rankOf (outBy t level edge (valueOf o))) × (r < 3) ⌝ }
+    ensures { λ r. ⌜ ((t : Table) → Outputs t (now (outs .entry)) → m ≡ length (t .rows) → r ≡ rankOf (outBy t level edge (valueOf o))) × (r < 3) ⌝ }
 {
     let i = lowest_of(m, level);
     if i < m {
-        return out_at(kinds, i, o);
+        return out_at(outs, i, o);
     }
     let k = lowest_of(m, edge);
     if k < m {
-        return out_at(kinds, k, o);
+        return out_at(outs, k, o);
     }
     2
 }
@@ -81,7 +81,7 @@ fn out_by(kinds: &[u8; base::ROWS], m: usize, level: u64, edge: u64, o: usize) -
 // Column j has the value number d and comes from x; `rest` are the rows that match in the other columns.
 fn entry(
     s: &[[u64; memo::OFFERS]; memo::COLUMNS],
-    kinds: &[u8; base::ROWS],
+    outs: &[u8; planes::OUTPUTS],
     m: usize,
     j: usize,
     rest: u64,
@@ -90,7 +90,7 @@ fn entry(
     o: usize,
 ) -> usize
     requires { ⌜ (m ≤ 64) × (j < 9) × (d < 3) × (x < 3) × (o < 3) ⌝ }
-    ensures { λ r. ⌜ ((t : Table) → Known t (now (s .entry)) (now (kinds .entry)) m → r ≡ entryOf t (now (s .entry)) j rest d x o) × (r < 3) ⌝ }
+    ensures { λ r. ⌜ ((t : Table) → Known t (now (s .entry)) (now (outs .entry)) m → r ≡ entryOf t (now (s .entry)) j rest d x o) × (r < 3) ⌝ }
 {
     if x == d {
         return o;
@@ -98,13 +98,13 @@ fn entry(
     let here = rest & cell_at(s, base::INPUTS, o);
     let level = here & cell_at(s, j, d);
     let edge = here & cell_at(s, j, 3 + (x * 3 + d));
-    out_by(kinds, m, level, edge, o)
+    out_by(outs, m, level, edge, o)
 }
 
 // i steps and then j; with the two exchanged, j steps and then i.
 fn first_then(
     s: &[[u64; memo::OFFERS]; memo::COLUMNS],
-    kinds: &[u8; base::ROWS],
+    outs: &[u8; planes::OUTPUTS],
     m: usize,
     i: usize,
     j: usize,
@@ -116,16 +116,16 @@ fn first_then(
     o: usize,
 ) -> usize
     requires { ⌜ (m ≤ 64) × (i < 9) × (j < 9) × (a < 3) × (b < 3) × (x < 3) × (y < 3) × (o < 3) ⌝ }
-    ensures { λ r. ⌜ ((t : Table) → Known t (now (s .entry)) (now (kinds .entry)) m → r ≡ firstThen t (now (s .entry)) i j rest a b x y o) × (r < 3) ⌝ }
+    ensures { λ r. ⌜ ((t : Table) → Known t (now (s .entry)) (now (outs .entry)) m → r ≡ firstThen t (now (s .entry)) i j rest a b x y o) × (r < 3) ⌝ }
 {
-    let p = entry(s, kinds, m, i, rest & cell_at(s, j, b), x, a, o);
-    entry(s, kinds, m, j, rest & cell_at(s, i, x), y, b, p)
+    let p = entry(s, outs, m, i, rest & cell_at(s, j, b), x, a, o);
+    entry(s, outs, m, j, rest & cell_at(s, i, x), y, b, p)
 }
 
 // The two orders agree for old output o.
 fn agree_o(
     s: &[[u64; memo::OFFERS]; memo::COLUMNS],
-    kinds: &[u8; base::ROWS],
+    outs: &[u8; planes::OUTPUTS],
     m: usize,
     i: usize,
     j: usize,
@@ -137,17 +137,17 @@ fn agree_o(
     o: usize,
 ) -> bool
     requires { ⌜ (m ≤ 64) × (i < 9) × (j < 9) × (a < 3) × (b < 3) × (x < 3) × (y < 3) × (o < 3) ⌝ }
-    ensures { λ r. ⌜ ((t : Table) → Known t (now (s .entry)) (now (kinds .entry)) m → r ≡ eqb (firstThen t (now (s .entry)) i j rest a b x y o) (secondThen t (now (s .entry)) i j rest a b x y o)) ⌝ }
+    ensures { λ r. ⌜ ((t : Table) → Known t (now (s .entry)) (now (outs .entry)) m → r ≡ eqb (firstThen t (now (s .entry)) i j rest a b x y o) (secondThen t (now (s .entry)) i j rest a b x y o)) ⌝ }
 {
-    let one = first_then(s, kinds, m, i, j, rest, a, b, x, y, o);
-    let two = first_then(s, kinds, m, j, i, rest, b, a, y, x, o);
+    let one = first_then(s, outs, m, i, j, rest, a, b, x, y, o);
+    let two = first_then(s, outs, m, j, i, rest, b, a, y, x, o);
     one == two
 }
 
 // They agree for every old output.
 fn agree_y(
     s: &[[u64; memo::OFFERS]; memo::COLUMNS],
-    kinds: &[u8; base::ROWS],
+    outs: &[u8; planes::OUTPUTS],
     m: usize,
     i: usize,
     j: usize,
@@ -158,17 +158,17 @@ fn agree_y(
     y: usize,
 ) -> bool
     requires { ⌜ (m ≤ 64) × (i < 9) × (j < 9) × (a < 3) × (b < 3) × (x < 3) × (y < 3) ⌝ }
-    ensures { λ r. ⌜ ((t : Table) → Known t (now (s .entry)) (now (kinds .entry)) m → r ≡ true → (o : ℕ) → o < 3 → firstThen t (now (s .entry)) i j rest a b x y o ≡ secondThen t (now (s .entry)) i j rest a b x y o) ⌝ }
+    ensures { λ r. ⌜ ((t : Table) → Known t (now (s .entry)) (now (outs .entry)) m → r ≡ true → (o : ℕ) → o < 3 → firstThen t (now (s .entry)) i j rest a b x y o ≡ secondThen t (now (s .entry)) i j rest a b x y o) ⌝ }
 {
-    agree_o(s, kinds, m, i, j, rest, a, b, x, y, 0)
-        & (agree_o(s, kinds, m, i, j, rest, a, b, x, y, 1)
-            & agree_o(s, kinds, m, i, j, rest, a, b, x, y, 2))
+    agree_o(s, outs, m, i, j, rest, a, b, x, y, 0)
+        & (agree_o(s, outs, m, i, j, rest, a, b, x, y, 1)
+            & agree_o(s, outs, m, i, j, rest, a, b, x, y, 2))
 }
 
 // And wherever j goes from b.
 fn agree_x(
     s: &[[u64; memo::OFFERS]; memo::COLUMNS],
-    kinds: &[u8; base::ROWS],
+    outs: &[u8; planes::OUTPUTS],
     m: usize,
     i: usize,
     j: usize,
@@ -178,16 +178,16 @@ fn agree_x(
     x: usize,
 ) -> bool
     requires { ⌜ (m ≤ 64) × (i < 9) × (j < 9) × (a < 3) × (b < 3) × (x < 3) ⌝ }
-    ensures { λ r. ⌜ ((t : Table) → Known t (now (s .entry)) (now (kinds .entry)) m → r ≡ true → (y o : ℕ) → y < 3 → o < 3 → y ≢ b → firstThen t (now (s .entry)) i j rest a b x y o ≡ secondThen t (now (s .entry)) i j rest a b x y o) ⌝ }
+    ensures { λ r. ⌜ ((t : Table) → Known t (now (s .entry)) (now (outs .entry)) m → r ≡ true → (y o : ℕ) → y < 3 → o < 3 → y ≢ b → firstThen t (now (s .entry)) i j rest a b x y o ≡ secondThen t (now (s .entry)) i j rest a b x y o) ⌝ }
 {
-    agree_y(s, kinds, m, i, j, rest, a, b, x, (b + 1) % 3)
-        & agree_y(s, kinds, m, i, j, rest, a, b, x, (b + 2) % 3)
+    agree_y(s, outs, m, i, j, rest, a, b, x, (b + 1) % 3)
+        & agree_y(s, outs, m, i, j, rest, a, b, x, (b + 2) % 3)
 }
 
 // All 27 cases agree; where i or j stays they do in any case.
 fn agree_v(
     s: &[[u64; memo::OFFERS]; memo::COLUMNS],
-    kinds: &[u8; base::ROWS],
+    outs: &[u8; planes::OUTPUTS],
     m: usize,
     i: usize,
     j: usize,
@@ -196,16 +196,16 @@ fn agree_v(
     b: usize,
 ) -> bool
     requires { ⌜ (m ≤ 64) × (i < 9) × (j < 9) × (a < 3) × (b < 3) ⌝ }
-    ensures { λ r. ⌜ ((t : Table) → Known t (now (s .entry)) (now (kinds .entry)) m → r ≡ true → 27 ≡ first 27 (differsBy t (now (s .entry)) i j rest a b)) ⌝ }
+    ensures { λ r. ⌜ ((t : Table) → Known t (now (s .entry)) (now (outs .entry)) m → r ≡ true → 27 ≡ first 27 (differsBy t (now (s .entry)) i j rest a b)) ⌝ }
 {
-    agree_x(s, kinds, m, i, j, rest, a, b, (a + 1) % 3)
-        & agree_x(s, kinds, m, i, j, rest, a, b, (a + 2) % 3)
+    agree_x(s, outs, m, i, j, rest, a, b, (a + 1) % 3)
+        & agree_x(s, outs, m, i, j, rest, a, b, (a + 2) % 3)
 }
 
 // The first of the 27 cases in which the two orders differ.
 fn first_case(
     s: &[[u64; memo::OFFERS]; memo::COLUMNS],
-    kinds: &[u8; base::ROWS],
+    outs: &[u8; planes::OUTPUTS],
     m: usize,
     i: usize,
     j: usize,
@@ -214,14 +214,14 @@ fn first_case(
     b: usize,
 ) -> usize
     requires { ⌜ (m ≤ 64) × (i < 9) × (j < 9) × (a < 3) × (b < 3) ⌝ }
-    ensures { λ r. ⌜ ((t : Table) → Known t (now (s .entry)) (now (kinds .entry)) m → r ≡ first 27 (differsBy t (now (s .entry)) i j rest a b)) ⌝ }
+    ensures { λ r. ⌜ ((t : Table) → Known t (now (s .entry)) (now (outs .entry)) m → r ≡ first 27 (differsBy t (now (s .entry)) i j rest a b)) ⌝ }
 {
-    if agree_v(s, kinds, m, i, j, rest, a, b) {
+    if agree_v(s, outs, m, i, j, rest, a, b) {
         return 27;
     }
     let mut c: usize = 0;
     while c < 27 {
-        if !agree_o(s, kinds, m, i, j, rest, a, b, c / 9, c / 3 % 3, c % 3) {
+        if !agree_o(s, outs, m, i, j, rest, a, b, c / 9, c / 3 % 3, c % 3) {
             return c;
         }
         c += 1;
@@ -233,7 +233,7 @@ fn first_case(
 fn scan(
     s: &[[u64; memo::OFFERS]; memo::COLUMNS],
     all: u64,
-    kinds: &[u8; base::ROWS],
+    outs: &[u8; planes::OUTPUTS],
     n: usize,
     m: usize,
     i: usize,
@@ -243,12 +243,12 @@ fn scan(
     q: usize,
 ) -> usize
     requires { ⌜ (n ≤ 9) × (m ≤ 64) × (i < 9) × (j < 9) × (0 < wi) × (0 < wj) × (q ≤ 19683) ⌝ }
-    ensures { λ r. ⌜ ((t : Table) → Known t (now (s .entry)) (now (kinds .entry)) m → r ≡ first (q * 27) (differsIn t (now (s .entry)) all n i j wi wj)) ⌝ }
+    ensures { λ r. ⌜ ((t : Table) → Known t (now (s .entry)) (now (outs .entry)) m → r ≡ first (q * 27) (differsIn t (now (s .entry)) all n i j wi wj)) ⌝ }
 {
     let mut v: usize = 0;
     while v < q {
         let rest = others_of(s, all, i, j, n, v);
-        let c = first_case(s, kinds, m, i, j, rest, v / wi % 3, v / wj % 3);
+        let c = first_case(s, outs, m, i, j, rest, v / wi % 3, v / wj % 3);
         if c < 27 {
             return v * 27 + c;
         }
@@ -275,25 +275,25 @@ pub fn power(n: usize) -> usize
 pub fn first_difference(
     s: &[[u64; memo::OFFERS]; memo::COLUMNS],
     all: u64,
-    kinds: &[u8; base::ROWS],
+    outs: &[u8; planes::OUTPUTS],
     n: usize,
     m: usize,
     i: usize,
     j: usize,
 ) -> usize
     requires { ⌜ (n ≤ 9) × (m ≤ 64) × (i < n) × (j < n) ⌝ }
-    ensures { λ r. ⌜ ((t : Table) → Given t (now (s .entry)) all (now (kinds .entry)) n m → r ≡ firstAt t i j) ⌝ }
+    ensures { λ r. ⌜ ((t : Table) → Given t (now (s .entry)) all (now (outs .entry)) n m → r ≡ firstAt t i j) ⌝ }
 {
     let wi = power(n - (i + 1));
     let wj = power(n - (j + 1));
-    scan(s, all, kinds, n, m, i, j, wi, wj, power(n))
+    scan(s, all, outs, n, m, i, j, wi, wj, power(n))
 }
 
 // What the order i, j gives from vector number v, where i goes to x, j to y and the old output is o.
 pub fn output_at(
     s: &[[u64; memo::OFFERS]; memo::COLUMNS],
     all: u64,
-    kinds: &[u8; base::ROWS],
+    outs: &[u8; planes::OUTPUTS],
     n: usize,
     m: usize,
     i: usize,
@@ -304,10 +304,10 @@ pub fn output_at(
     o: usize,
 ) -> usize
     requires { ⌜ (n ≤ 9) × (m ≤ 64) × (i < n) × (j < n) × (x < 3) × (y < 3) × (o < 3) ⌝ }
-    ensures { λ r. ⌜ ((t : Table) → Given t (now (s .entry)) all (now (kinds .entry)) n m → r ≡ outputAt t i j v x y o) ⌝ }
+    ensures { λ r. ⌜ ((t : Table) → Given t (now (s .entry)) all (now (outs .entry)) n m → r ≡ outputAt t i j v x y o) ⌝ }
 {
     let wi = power(n - (i + 1));
     let wj = power(n - (j + 1));
     let rest = others_of(s, all, i, j, n, v);
-    first_then(s, kinds, m, i, j, rest, v / wi % 3, v / wj % 3, x, y, o)
+    first_then(s, outs, m, i, j, rest, v / wi % 3, v / wj % 3, x, y, o)
 }

@@ -12,10 +12,10 @@ use Rattle.judge.proofs.finding.Statement.{statement}
 use Rattle.judge.proofs.finding.Tie as tie
 
 abbrev Inv-loop : tie.InvT-loop
-Inv-loop s all kinds n m c p₀ p = (p ≤ 9 * n) × ((t : Table) → Given t s all kinds n m → (k : ℕ) → k < p → pairDiffers t (k / inputLimit) (k % inputLimit) ≡ false)
+Inv-loop s all outs n m c p₀ p = (p ≤ 9 * n) × ((t : Table) → Given t s all outs n m → (k : ℕ) → k < p → pairDiffers t (k / inputLimit) (k % inputLimit) ≡ false)
 
 abbrev μ-loop : tie.MeasureT-loop
-μ-loop s all kinds n m c p₀ p = 9 * n - p
+μ-loop s all outs n m c p₀ p = 9 * n - p
 
 pub finding-spec : {M : Type 1} → statement M
 finding-spec =
@@ -27,7 +27,7 @@ finding-spec =
     (λ c. omega (arith, vectors-low _ _ (c .before .pre .0) (c .power .ensures)))
     (λ c. (omega arith, λ t G. below-none _))
     (λ c. omega arith)
-    (λ c κs. let s = c .before .before in (omega arith, omega arith, rw (s .power .ensures), omega arith))
+    (λ c κs. let s = c .before .before in (omega arith, omega arith, rw (s .power .ensures), omega arith, s .before .pre .2))
     (λ c κs. let q = c .before .pair-first .ensures .1 (c .if1 .taken) in (omega arith, omega arith, omega (arith, q .0, q .1), q .1))
     (λ c.
     let f = c .before .before in

@@ -13,10 +13,10 @@ use Rattle.judge.proofs.square_at.Statement.{statement}
 use Rattle.judge.proofs.square_at.Tie as tie
 
 abbrev Inv-loop : tie.InvT-loop
-Inv-loop s all kinds n m c q₀ i₀ q i = (t : Table) → Given t s all kinds n m → Filled (λ (k : ℕ). listed (yesIn t k) 9) 9 q i
+Inv-loop s all outs n m c q₀ i₀ q i = (t : Table) → Given t s all outs n m → Filled (λ (k : ℕ). listed (yesIn t k) 9) 9 q i
 
 abbrev μ-loop : tie.MeasureT-loop
-μ-loop s all kinds n m c q₀ i₀ q i = 9 - i
+μ-loop s all outs n m c q₀ i₀ q i = 9 - i
 
 pub square-at-spec : {M : Type 1} → statement M
 unfolding squareIn
@@ -28,7 +28,7 @@ square-at-spec =
     (λ c κs. omega arith)
     (λ c. omega (arith, vectors-low _ _ (c .before .pre .0) (c .power .ensures)))
     (λ c. λ t G. filled-none _ 9 _)
-    (λ c κs. let s = c .before .before .before in (omega arith, omega arith, rw (s .power .ensures), omega arith))
+    (λ c κs. let s = c .before .before .before in (omega arith, omega arith, rw (s .power .ensures), omega arith, s .before .pre .2))
     (λ c. omega arith)
     (λ c. search needs)
     (λ c. omega arith)

@@ -13,5 +13,5 @@ yes-at-spec =
     (λ c. search needs)
     (λ c. search needs)
     (λ c. λ t G w. yes-before t _ _ (c .before .before .args .done .now) _ (c .before .if1 .taken) (omega arith) w refl)
-    (λ c κs. (omega arith, omega arith, c .before .pre .2, omega arith))
+    (λ c κs. (omega arith, omega arith, c .before .pre .2, omega arith, c .before .pre .5))
     (λ c. λ t G w. yes-found t _ _ _ _ (omega arith) (c .before .before .pre .2 ∙ rw (G .inputs-are)) (c .pair-first .ensures .0 t G)))

@@ -1,3 +1,4 @@
+use native.Mathlib.Omega.{arith}
 use borrow.Author.Needs.{needs}
 use Rattle.lanes.proofs.Contexts.{pair-by}
 use Rattle.lanes.proofs.pair_agrees.Statement.{statement}
@@ -15,27 +16,15 @@ pair-agrees-spec =
     (λ c κs. search needs)
     (λ c κs. search needs)
     (λ c κs. search needs)
-    (λ c κs. search needs)
-    (λ c κs. search needs)
-    (λ c e.
+    (λ c e t G ea em.
     let l = c .before .before .before in
-    let w = l .before .before in
+    let w = l .before in
     let q = w .before .before in
     let p = q .before .before in
-    let d = p .before .before .before .pre in
-    pair-by _ _ _ _ _ _ _ _ _ _ _ _
-    (record {
-      small = d .0 .small;
-      cells-are = d .0 .cells-are;
-      outputs = d .0 .outputs;
-      inputs-are = p .before .inputs .ensures;
-      first = rw (p .before .inputs .ensures) (d .0 .first);
-      second = rw (p .before .inputs .ensures) (d .0 .second);
-    })
-    (d .1)
+    pair-by t _ _ _ _ _ _ _ _ _ _ _ G ea
     (p .top-of .ensures .0)
     (rw (q .before .before2 .ensures) at (q .top-of2 .ensures .0))
     (rw (w .before .before3 .ensures) at (w .top-of3 .ensures .0))
-    (l .before .rows .ensures)
+    em
     (l .lanes .ensures)
     (rw (c .before .before4 .ensures) at (c .outer-agree .ensures e))))

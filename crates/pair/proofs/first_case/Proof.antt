@@ -10,10 +10,10 @@ use Rattle.pair.proofs.first_case.Statement.{statement}
 use Rattle.pair.proofs.first_case.Tie as tie
 
 abbrev Inv-loop : tie.InvT-loop
-Inv-loop s kinds m i j rest a b c₀ c = (c ≤ 27) × ((t : Table) → Known t s kinds m → (k : ℕ) → k < c → differsBy t s i j rest a b k ≡ false)
+Inv-loop s outs m i j rest a b c₀ c = (c ≤ 27) × ((t : Table) → Known t s outs m → (k : ℕ) → k < c → differsBy t s i j rest a b k ≡ false)
 
 abbrev μ-loop : tie.MeasureT-loop
-μ-loop s kinds m i j rest a b c₀ c = 27 - c
+μ-loop s outs m i j rest a b c₀ c = 27 - c
 
 pub first-case-spec : {M : Type 1} → statement M
 unfolding differsBy

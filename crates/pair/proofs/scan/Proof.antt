@@ -10,10 +10,10 @@ use Rattle.pair.proofs.scan.Statement.{statement}
 use Rattle.pair.proofs.scan.Tie as tie
 
 abbrev Inv-loop : tie.InvT-loop
-Inv-loop s all kinds n m i j wi wj q v₀ v = (v ≤ q) × ((t : Table) → Known t s kinds m → (r : ℕ) → r < v * 27 → differsIn t s all n i j wi wj r ≡ false)
+Inv-loop s all outs n m i j wi wj q v₀ v = (v ≤ q) × ((t : Table) → Known t s outs m → (r : ℕ) → r < v * 27 → differsIn t s all n i j wi wj r ≡ false)
 
 abbrev μ-loop : tie.MeasureT-loop
-μ-loop s all kinds n m i j wi wj q v₀ v = q - v
+μ-loop s all outs n m i j wi wj q v₀ v = q - v
 
 pub scan-spec : {M : Type 1} → statement M
 scan-spec =
