@@ -1,3 +1,4 @@
+use native.Mathlib.Omega.{arith}
 use borrow.Author.Needs.{needs}
 use Rattle.lanes.proofs.Contexts.{pair-by}
 use Rattle.lanes.proofs.pair_agrees.Statement.{statement}
@@ -17,8 +18,21 @@ pair-agrees-spec =
     (λ c κs. search needs)
     (λ c κs. search needs)
     (λ c κs. search needs)
+    (λ c κs. search needs)
+    (λ c κs.
+    let d = c .before .before in
+    let w = d .before .before .before .before in
+    let p = w .before .before .before .before in
+    let i = p .before .before .before .pre .0 in (
+      omega (arith, p .before .inputs .ensures, i .small .inputs),
+      omega (arith, i .first, i .small .inputs),
+      omega (arith, i .second, i .small .inputs),
+      omega (arith, c .before4 .ensures, w .top-of3 .ensures, w .before .before3 .ensures, w .before .before .top-of2 .ensures, w .before .before .before .before2 .ensures, p .top-of .ensures, p .before .inputs .ensures, i .small .inputs),
+      i .outputs .low,
+      record { rows = d .before .steady-rows .ensures; first = d .edges-of .ensures .0; second = d .edges-of .ensures .1 },
+    ))
     (λ c e.
-    let l = c .before .before .before in
+    let l = c .before .before .before .before .before in
     let w = l .before .before in
     let q = w .before .before in
     let p = q .before .before in
