@@ -11,7 +11,9 @@ use Rattle.memo.specs.Rows.{cellAt}
 use Rattle.lanes.specs.Columns.{topOf, matching}
 use Rattle.planes.specs.Planes.{LanesAgree}
 use Rattle.lanes.specs.Pairs.{OuterAgree}
-use Rattle.lanes.proofs.Tops.{matching-top, matching-base}
+use Rattle.plain.specs.Plain.{Only, Plain}
+use Rattle.plain.proofs.Alike.{plain-lanes}
+use Rattle.lanes.proofs.Tops.{matching-top, matching-base, matching-in}
 
 module _ (s : List (List ℕ)) (outs g : List ℕ) (n i j : ℕ) where
   pub outer-none : (k t r : ℕ) → t ≡ topOf i j k → t ≡ 0 → LanesAgree s outs g n i j r → OuterAgree s outs g n i j k r
@@ -32,6 +34,10 @@ module _ (s : List (List ℕ)) (outs g : List ℕ) (n i j : ℕ) where
     where
       whole : (c : ℕ) → matching s r i j k c ≡ matching s (bitAnd r (cellAt s (t - 1) (c % 3))) i j (t - 1) (c / 3)
       whole c = matching-top i j s r k c ∙ rw (← e, ne-eqb t 0 h) (sym (matching-base i j s r (cellAt s (t - 1) (c % 3)) (t - 1) (c / 3)))
+
+  -- no row is left to which an old output or a change matters
+  pub outer-plain : (k r steady edges : ℕ) → Plain s outs n i j steady edges → Only r steady edges → OuterAgree s outs g n i j k r
+  outer-plain k r steady edges p o = record { at = λ c. plain-lanes s outs g n i j (matching s r i j k c) r steady edges (λ q e. matching-in i j s r k c q e) p o }
 
   -- equal rows need no second look
   pub outer-same : (k r q : ℕ) → r ≡ q → OuterAgree s outs g n i j k q → OuterAgree s outs g n i j k r

@@ -9,6 +9,7 @@ ghost use Rattle.table.specs.Area.{decode};
 ghost use Rattle.memo.specs.Rows.{Small, allRows};
 ghost use Rattle.planes.specs.Words.{bit};
 ghost use Rattle.planes.specs.Planes.{Low, Outputs, Given};
+ghost use Rattle.plain.specs.Plain.{Plain};
 ghost use Rattle.lanes.specs.Columns.{topOf, lanesIn, LaneRow, Lanes};
 ghost use Rattle.lanes.specs.Pairs.{OuterAgree, PairAgrees};
 use value::Ternary;
@@ -92,12 +93,17 @@ fn outer_agree(
     n: usize,
     i: usize,
     j: usize,
+    steady: u64,
+    edges: u64,
     k: usize,
     r: u64,
 ) -> bool
-    requires { ⌜ (n < 10) × (i < 10) × (j < 10) × (k ≤ 10) × Low (now outs) ⌝ }
+    requires { ⌜ (n < 10) × (i < 10) × (j < 10) × (k ≤ 10) × Low (now outs) × Plain (now s) (now outs) n i j steady edges ⌝ }
     ensures { λ b. ⌜ (b ≡ true → OuterAgree (now (s .entry)) (now (outs .entry)) (now (g .entry)) n i j k r) ⌝ }
 {
+    if plain::only_plain(r, steady, edges) {
+        return true;
+    }
     let t = top_of(i, j, k);
     if t == 0 {
         return planes::lanes_agree(g, outs, s, n, i, j, r);
@@ -106,16 +112,16 @@ fn outer_agree(
     let a = r & s[q][0];
     let b = r & s[q][1];
     let c = r & s[q][2];
-    if !outer_agree(g, outs, s, n, i, j, q, a) {
+    if !outer_agree(g, outs, s, n, i, j, steady, edges, q, a) {
         return false;
     }
     if b == a {
         if c == a {
             return true;
         }
-        return outer_agree(g, outs, s, n, i, j, q, c);
+        return outer_agree(g, outs, s, n, i, j, steady, edges, q, c);
     }
-    if !outer_agree(g, outs, s, n, i, j, q, b) {
+    if !outer_agree(g, outs, s, n, i, j, steady, edges, q, b) {
         return false;
     }
     if c == a {
@@ -124,7 +130,7 @@ fn outer_agree(
     if c == b {
         return true;
     }
-    outer_agree(g, outs, s, n, i, j, q, c)
+    outer_agree(g, outs, s, n, i, j, steady, edges, q, c)
 }
 
 fn output_at(a: &[u8], c: usize) -> u8
@@ -172,5 +178,7 @@ pub fn pair_agrees(
     let u = top_of(i, j, before(t));
     let v = top_of(i, j, before(u));
     let g = lanes(s, t, u, v, m);
-    outer_agree(&g, outs, s, n, i, j, before(v), all)
+    let steady = plain::steady_rows(s, outs, n, m);
+    let edges = plain::edges_of(s, i, j);
+    outer_agree(&g, outs, s, n, i, j, steady, edges, before(v), all)
 }

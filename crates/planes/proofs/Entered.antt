@@ -33,7 +33,7 @@ module _ (t : Table) (s : List (List ℕ)) (outs : List ℕ) (n i j : ℕ) (d : 
   unfolding offeredRows
   state-mask = rw (d .cells-are, d .inputs-are) (cell-is t (t .inputs) o (d .small .inputs) (omega arith))
 
-  state-lt : cellAt s n o < 2 ^ 64
+  pub state-lt : cellAt s n o < 2 ^ 64
   unfolding maskOf
   state-lt = rw state-mask (lt-of-lt-of-le (mask-lt _ 0 (length (t .rows))) (pow-le-pow-right {n = 2} (lit< tt) {i = length (t .rows)} {j = 64} (d .small .rows)))
 
@@ -82,7 +82,7 @@ module _ (t : Table) (s : List (List ℕ)) (outs : List ℕ) (n i j : ℕ) (d : 
   edge-is g c h r u w a l = lane-first r (cellAt s h w) (cellAt s n o) (cellAt s c (3 + (a * 3 + u))) (laneRows g l)
 
   -- what the rows answer to a change
-  out-rank : (x v e : ℕ) →
+  pub out-rank : (x v e : ℕ) →
       rankOf (outBy t (bitAnd (bitAnd x (cellAt s n o)) v) (bitAnd (bitAnd x (cellAt s n o)) e) (valueOf o))
       ≡ orX (cond (eqb (answerIn outs o (bitAnd (bitAnd x (cellAt s n o)) v)) 3) (answerIn outs o (bitAnd (bitAnd x (cellAt s n o)) e)) (answerIn outs o (bitAnd (bitAnd x (cellAt s n o)) v)))
   unfolding outBy rankOf

@@ -51,6 +51,16 @@ module _ (t : Table) (s : List (List ℕ)) (i j rest : ℕ) where
       idle j (bitAnd rest (cellAt s i x)) y (entryOf t s i (bitAnd rest (cellAt s j y)) x a o)
       ∙ sym (ap (λ (q : ℕ). entryOf t s i (bitAnd rest (cellAt s j y)) x a q) (idle j (bitAnd rest (cellAt s i a)) y o))
 
+  -- so only changes of both columns are to be looked at
+  pub by-change : (a b x y o : ℕ) → (eqb a x ≡ false → eqb b y ≡ false → firstThen t s i j rest a b x y o ≡ secondThen t s i j rest a b x y o) →
+      firstThen t s i j rest a b x y o ≡ secondThen t s i j rest a b x y o
+  by-change a b x y o h = go (eqb a x) refl (eqb b y) refl
+    where
+      go : (p : Bool) → eqb a x ≡ p → (q : Bool) → eqb b y ≡ q → firstThen t s i j rest a b x y o ≡ secondThen t s i j rest a b x y o
+      go true e q z = let k : a ≡ x = eqb-true a x e in rw k (first-idle b x y o)
+      go false e true z = let k : b ≡ y = eqb-true b y z in rw k (second-idle a x y o)
+      go false e false z = h e z
+
 module _ (t : Table) (s : List (List ℕ)) (outs g : List ℕ) (n i j r : ℕ) (d : Given t s outs n i j) where
   -- the step of column c, in words
   step-told : (c h : ℕ) (f : List (List ℕ)) → Steps outs s g n c h r f → (u w a o : ℕ) → u < 3 → w < 3 → a < 3 → o < 3 → eqb a u ≡ false →
@@ -81,12 +91,7 @@ module _ (t : Table) (s : List (List ℕ)) (outs g : List ℕ) (n i j r : ℕ) (
         (λ z lz. entry-low t s outs n i j d z lz i _ x a)
 
     agrees : firstThen t s i j rest a b x y o ≡ secondThen t s i j rest a b x y o
-    agrees = go (eqb a x) refl (eqb b y) refl
-      where
-        go : (p : Bool) → eqb a x ≡ p → (q : Bool) → eqb b y ≡ q → firstThen t s i j rest a b x y o ≡ secondThen t s i j rest a b x y o
-        go true e q z = let k : a ≡ x = eqb-true a x e in rw k (first-idle t s i j rest b x y o)
-        go false e true z = let k : b ≡ y = eqb-true b y z in rw k (second-idle t s i j rest a x y o)
-        go false e false z = both-change e z
+    agrees = by-change t s i j rest a b x y o both-change
 
 pub lanes-agree : (s : List (List ℕ)) (outs g : List ℕ) (n i j r : ℕ) (f h : List (List ℕ)) → Steps outs s g n i j r f → Steps outs s g n j i r h →
     every 81 (agreeIn f h) ≡ true → LanesAgree s outs g n i j r

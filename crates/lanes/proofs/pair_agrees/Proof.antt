@@ -16,8 +16,21 @@ pair-agrees-spec =
     (λ c κs. search needs)
     (λ c κs. search needs)
     (λ c κs. search needs)
+    (λ c κs. search needs)
+    (λ c κs.
+    let d = c .before .before in
+    let w = d .before .before .before in
+    let p = w .before .before .before .before in
+    let i = p .before .pre in (
+      omega (arith, i .0),
+      omega (arith, i .0, i .2),
+      omega (arith, i .0, i .3),
+      omega (arith, i .0, c .before4 .ensures, w .top-of3 .ensures, w .before .before3 .ensures, w .before .before .top-of2 .ensures, w .before .before .before .before2 .ensures, p .top-of .ensures),
+      i .4,
+      record { rows = d .before .steady-rows .ensures; first = d .edges-of .ensures .0; second = d .edges-of .ensures .1 },
+    ))
     (λ c e t G ea em.
-    let l = c .before .before .before in
+    let l = c .before .before .before .before .before in
     let w = l .before in
     let q = w .before .before in
     let p = q .before .before in

@@ -1,3 +1,4 @@
+use native.Mathlib.Omega.{arith}
 use borrow.Author.Needs.{needs}
 use Rattle.planes.specs.Paths.{agreeOf}
 use Rattle.planes.proofs.agree.Statement.{statement}
@@ -9,10 +10,10 @@ agree-spec =
     tie.close
     (tie.spec
     (λ c κs. search needs)
-    (λ c. search needs)
-    (λ c. search needs)
+    (λ c. omega arith)
+    (λ c. omega arith)
     (λ c κs. search needs)
-    (λ c. search needs)
-    (λ c. search needs)
+    (λ c. omega arith)
+    (λ c. omega arith)
     (λ c κs. search needs)
     (λ c. rw (c .before .before .differ .ensures, c .before .differ2 .ensures, c .differ3 .ensures)))

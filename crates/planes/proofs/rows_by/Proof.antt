@@ -1,5 +1,5 @@
 use mathlib.Core.Path.{refl}
-use borrow.Author.Needs.{needs}
+use native.Mathlib.Omega.{arith}
 use Rattle.memo.specs.Rows.{cellAt}
 use Rattle.planes.specs.Planes.{rowsBy}
 use Rattle.planes.proofs.rows_by.Statement.{statement}
@@ -10,16 +10,16 @@ unfolding rowsBy cellAt
 rows-by-spec =
     tie.close
     (tie.spec
-    (λ c. search needs)
-    (λ c. search needs)
-    (λ c. search needs)
-    (λ c. search needs)
-    (λ c. search needs)
-    (λ c. search needs)
-    (λ c. search needs)
-    (λ c. search needs)
-    (λ c. search needs)
-    (λ c. search needs)
-    (λ c. search needs)
-    (λ c. search needs)
+    (λ c. omega arith)
+    (λ c. omega arith)
+    (λ c. omega arith)
+    (λ c. omega arith)
+    (λ c. omega arith)
+    (λ c. omega arith)
+    (λ c. omega arith)
+    (λ c. omega arith)
+    (λ c. omega arith)
+    (λ c. omega arith)
+    (λ c. omega arith)
+    (λ c. omega arith)
     (λ c. refl))
