@@ -19,7 +19,9 @@ use Rattle.lanes.specs.Pairs.{OuterAgree, PairAgrees}
 use Rattle.planes.proofs.Bits.{bit-and, bit-ext, bit-past}
 use Rattle.planes.proofs.Answers.{row-in}
 use Rattle.planes.proofs.Planes.{last-of}
-use Rattle.lanes.proofs.Tops.{matching-bit, matching-past}
+use Rattle.plain.specs.Plain.{Only, Plain}
+use Rattle.plain.proofs.Alike.{plain-agree}
+use Rattle.lanes.proofs.Tops.{matching-bit, matching-past, matching-in}
 
 -- the digits of the columns other than i and j
 squeeze : ℕ → ℕ → ℕ → ℕ → ℕ
@@ -93,3 +95,13 @@ pair-by t s outs all i j n p q w m g d ea ep eq ew em lanes a = record {
   where
     few : (r : ℕ) → m ≤ r → bit all r ≡ false
     few r l = rw ea (bit-past (λ (i : ℕ). true) (length (t .rows)) r (rw em at l))
+
+-- where every row is plain there is nothing to look at
+pub plain-by : (t : Table) (s : List (List ℕ)) (outs : List ℕ) (all i j n steady edges : ℕ) → Given t s outs n i j → all ≡ allRows t → Plain s outs n i j steady edges → Only all steady edges →
+    PairAgrees t i j
+plain-by t s outs all i j n steady edges d ea p o = record {
+  at = λ v.
+      let r = plain-agree t s outs n i j d (othersOf s all i j n v) all steady edges
+      (λ k e. matching-in i j s all n (squeeze i j n v) k (rw (others-matching s all i j n v) at e)) (p .rows) (p .first) (p .second) o in
+      rw (d .cells-are, ea, d .inputs-are) at r;
+}

@@ -174,11 +174,14 @@ pub fn pair_agrees(
     requires { ⌜ (n ≤ 9) × (m ≤ 64) × (i < n) × (j < n) × Low (now outs) ⌝ }
     ensures { λ r. ⌜ (r ≡ true → (t : Table) → Given t (now (s .entry)) (now (outs .entry)) n i j → all ≡ allRows t → m ≡ length (t .rows) → PairAgrees t i j) ⌝ }
 {
+    let steady = plain::steady_rows(s, outs, n, m);
+    let edges = plain::edges_of(s, i, j);
+    if plain::only_plain(all, steady, edges) {
+        return true;
+    }
     let t = top_of(i, j, n);
     let u = top_of(i, j, before(t));
     let v = top_of(i, j, before(u));
     let g = lanes(s, t, u, v, m);
-    let steady = plain::steady_rows(s, outs, n, m);
-    let edges = plain::edges_of(s, i, j);
     outer_agree(&g, outs, s, n, i, j, steady, edges, before(v), all)
 }

@@ -1,5 +1,5 @@
 -- A loop that fills an array from the front. Assumes nothing.
-use Prim.Native.Nat.{ℕ, zero, suc, _+_, _<_, _≤_}
+use Prim.Native.Nat.{ℕ, _+_, _*_, _<_, _≤_}
 use mathlib.Core.Path.{_≡_, refl, sym, ap, _∙_}
 use mathlib.Core.List.{List}
 use mathlib.Core.Logic.{⊎-elim}
@@ -25,6 +25,17 @@ module _ {A : Type 0} (d : A) (P : ℕ → A → Type 0) (n : ℕ) where
         (λ (q : e < k). rw (getD-set-other l k e v d (λ z. omega arith)) (s .at e q))
         (eq-or-lt-of-le {n = e} {m = k} (omega arith));
   }
+
+  -- three elements at once
+  pub each-three : (l : List A) (k : ℕ) (x y z : A) → k * 3 + 2 < n → P (k * 3) x → P (k * 3 + 1) y → P (k * 3 + 2) z → Each l (k * 3) →
+      Each (set (set (set l (k * 3) x) (k * 3 + 1) y) (k * 3 + 2) z) ((k + 1) * 3)
+  each-three l k x y z h px py pz s =
+      let a = each-more l (k * 3) x (omega arith) px s in
+      let b = each-more _ (k * 3 + 1) y (omega arith) py a in
+      let e : k * 3 + 1 + 1 ≡ k * 3 + 2 = omega arith in
+      let c = each-more _ (k * 3 + 2) z (omega arith) pz (rw e at b) in
+      let f : k * 3 + 2 + 1 ≡ (k + 1) * 3 = omega arith in
+      rw f at c
 
   pub each-all : (l : List A) (m k : ℕ) → m ≤ k → Each l k → (e : ℕ) → e < m → P e (getD l e d)
   each-all l m k h s e lt = s .at e (omega arith)

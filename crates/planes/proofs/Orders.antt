@@ -1,7 +1,7 @@
 -- Where every step of two columns is told, the two orders agree in each lane. Assumes nothing.
 use Prim.Native.Nat.{ℕ, zero, suc, _+_, _-_, _*_, _/_, _%_, _<_, _≤_}
 use mathlib.Core.Path.{_≡_, refl, sym, ap, _∙_}
-use mathlib.Core.Bool.{Bool, true, false, cond}
+use mathlib.Core.Bool.{Bool, true, false, cond, _&&_}
 use mathlib.Core.List.{List, []}
 use native.Mathlib.Omega.{arith}
 use lib.Bits.{bitAnd}
@@ -9,6 +9,7 @@ use lib.Dec.{eqb}
 use lib.ListN.{getD}
 use borrow.Author.Tests.{eqb-true, eq-eqb}
 use Rattle.base.specs.Search.{every}
+use Rattle.base.proofs.Bools.{both}
 use Rattle.base.proofs.Search.{every-at}
 use Rattle.table.specs.Table.{Table}
 use Rattle.memo.specs.Rows.{cellAt, entryOf}
@@ -16,22 +17,27 @@ use Rattle.memo.specs.Pair.{firstThen, secondThen}
 use Rattle.planes.specs.Words.{Told}
 use Rattle.planes.specs.Planes.{laneRows, besides, stepsAt, enterOf, Steps, Agree, Given, LanesAgree}
 use Rattle.planes.specs.Paths.{agreeOf, agreeAt, agreeIn}
-use Rattle.planes.proofs.Planes.{told-same}
+use Rattle.planes.proofs.Planes.{told-same, last-of}
 use Rattle.planes.proofs.Entered.{enter-is, entry-low}
 use Rattle.planes.proofs.Composed.{agree-lane}
 
--- one case of the 81
-in-place : (f h : List (List ℕ)) (x y a b : ℕ) → x < 3 → y < 3 → a < 3 → b < 3 → every 81 (agreeIn f h) ≡ true → agreeAt f h x y a b ≡ true
+-- one case of them all
+in-place : (f h : List (List ℕ)) (x y a b : ℕ) → x < 3 → y < 3 → a < 3 → b < 3 → eqb a x ≡ false → every 27 (agreeIn f h) ≡ true → agreeAt f h x y a b ≡ true
 unfolding agreeIn
-in-place f h x y a b lx ly la lb e = go (((x * 3 + y) * 3 + a) * 3 + b) refl
+in-place f h x y a b lx ly la lb ne e = pick b lb (go ((x * 3 + y) * 3 + a) refl)
   where
-    go : (k : ℕ) → k ≡ ((x * 3 + y) * 3 + a) * 3 + b → agreeAt f h x y a b ≡ true
+    go : (k : ℕ) → k ≡ (x * 3 + y) * 3 + a → (agreeAt f h x y a 0 && (agreeAt f h x y a 1 && agreeAt f h x y a 2)) ≡ true
     go k q =
-        let ex : k / 27 ≡ x = omega arith in
-        let ey : k / 9 % 3 ≡ y = omega arith in
-        let ea : k / 3 % 3 ≡ a = omega arith in
-        let eb : k % 3 ≡ b = omega arith in
-        rw (ex, ey, ea, eb) at (every-at (agreeIn f h) 81 k e (omega arith))
+        let ex : k / 9 ≡ x = omega arith in
+        let ey : k / 3 % 3 ≡ y = last-of (k / 3) x y ly (omega arith) in
+        let ea : k % 3 ≡ a = omega arith in
+        rw (ex, ey, ea, ne) at (every-at (agreeIn f h) 27 k e (omega arith))
+
+    pick : (b : ℕ) → b < 3 → (agreeAt f h x y a 0 && (agreeAt f h x y a 1 && agreeAt f h x y a 2)) ≡ true → agreeAt f h x y a b ≡ true
+    pick zero l t = both (agreeAt f h x y a 0) _ t .0
+    pick (suc zero) l t = both (agreeAt f h x y a 1) _ (both (agreeAt f h x y a 0) _ t .1) .0
+    pick (suc (suc zero)) l t = both (agreeAt f h x y a 1) _ (both (agreeAt f h x y a 0) _ t .1) .1
+    pick (suc (suc (suc b))) l t = absurd (omega arith)
 
 -- a column that does not change leaves the output as it is
 module _ (t : Table) (s : List (List ℕ)) (i j rest : ℕ) where
@@ -67,7 +73,7 @@ module _ (t : Table) (s : List (List ℕ)) (outs g : List ℕ) (n i j r : ℕ) (
       Told 3 (getD f (stepsAt u w a + o) []) (λ (l : ℕ). entryOf t s c (besides s g h r w l) u a o)
   step-told c h f st u w a o lu lw la lo e = told-same 3 _ _ _ (λ l. enter-is t s outs n i j d o lo g c h r u w a l e) (st .at u w a o lu lw la lo e)
 
-  module _ (f h : List (List ℕ)) (sf : Steps outs s g n i j r f) (sh : Steps outs s g n j i r h) (all : every 81 (agreeIn f h) ≡ true) (l : ℕ) (lt : l < 27)
+  module _ (f h : List (List ℕ)) (sf : Steps outs s g n i j r f) (sh : Steps outs s g n j i r h) (all : every 27 (agreeIn f h) ≡ true) (l : ℕ) (lt : l < 27)
       (a b x y o : ℕ) (la : a < 3) (lb : b < 3) (lx : x < 3) (ly : y < 3) (lo : o < 3) where
     abbrev rest : ℕ
     rest = bitAnd r (laneRows g l)
@@ -80,7 +86,7 @@ module _ (t : Table) (s : List (List ℕ)) (outs g : List ℕ) (n i j r : ℕ) (
         (λ (l : ℕ). entryOf t s j (besides s g i r a l) y b o)
         (λ (z l : ℕ). entryOf t s j (besides s g i r x l) y b z)
         (λ (z l : ℕ). entryOf t s i (besides s g j r y l) x a z)
-        lo lt (rw (p, q) at (in-place f h x y a b lx ly la lb all))
+        lo lt (rw q at (in-place f h x y a b lx ly la lb p all))
         (step-told i j f sf x b a o lx lb la lo p)
         (λ z lz. step-told j i h sh y x b z ly lx lb lz q)
         (step-told j i h sh y a b o ly la lb lo q)
@@ -94,7 +100,7 @@ module _ (t : Table) (s : List (List ℕ)) (outs g : List ℕ) (n i j r : ℕ) (
     agrees = by-change t s i j rest a b x y o both-change
 
 pub lanes-agree : (s : List (List ℕ)) (outs g : List ℕ) (n i j r : ℕ) (f h : List (List ℕ)) → Steps outs s g n i j r f → Steps outs s g n j i r h →
-    every 81 (agreeIn f h) ≡ true → LanesAgree s outs g n i j r
+    every 27 (agreeIn f h) ≡ true → LanesAgree s outs g n i j r
 lanes-agree s outs g n i j r f h sf sh e = record {
   at = λ t l lt d. record { same = λ a b x y o la lb lx ly lo. agrees t s outs g n i j r d f h sf sh e l lt a b x y o la lb lx ly lo };
 }

@@ -122,25 +122,37 @@ module _ (outs : List ℕ) (s : List (List ℕ)) (g : List ℕ) (n i j r : ℕ) 
   )
 
 -- a step goes on from the planes of the level rows
-pub step-by : (outs : List ℕ) (s : List (List ℕ)) (g : List ℕ) (n c h : ℕ) (turned : Bool) (r k set at : ℕ) (lev : List (List ℕ)) (p : List ℕ) → k < 81 →
-    Levels outs s g n c h turned r lev → set ≡ rowsBy s n h c r (k / 9 % 3) (k % 3) (3 + (k / 3 % 3 * 3 + k / 27)) → at ≡ placeOf turned (k / 27) (k / 9 % 3) →
-    Closed outs g (k % 3) set (getD lev (at * 3 + k % 3) []) p → Step outs s g n c h r k p
+pub step-by : (outs : List ℕ) (s : List (List ℕ)) (g : List ℕ) (n c h : ℕ) (turned : Bool) (r k o set at : ℕ) (lev : List (List ℕ)) (p : List ℕ) → k < 27 → o < 3 →
+    Levels outs s g n c h turned r lev → set ≡ rowsBy s n h c r (k / 3 % 3) o (3 + (k % 3 * 3 + k / 9)) → at ≡ placeOf turned (k / 9) (k / 3 % 3) →
+    Closed outs g o set (getD lev (at * 3 + o) []) p → Step outs s g n c h r k o p
 unfolding enterOf
-step-by outs s g n c h turned r k set at lev p lk lv es ea cl =
+step-by outs s g n c h turned r k o set at lev p lk lo lv es ea cl =
     let done = rw (es, ea) at cl in
-    record { told = λ e. told-same 3 p _ _ (λ l. refl) (done .told _ (lv .at (k / 27) (k / 9 % 3) (k % 3) (omega arith) (omega arith) (omega arith))) }
+    record { told = λ e. told-same 3 p _ _ (λ l. refl) (done .told _ (lv .at (k / 9) (k / 3 % 3) o (omega arith) (omega arith) lo)) }
 
-pub steps-by : (outs : List ℕ) (s : List (List ℕ)) (g : List ℕ) (n c h r : ℕ) (f : List (List ℕ)) → ((e : ℕ) → e < 81 → Step outs s g n c h r e (getD f e [])) → Steps outs s g n c h r f
+-- the step in place e
+pub StepIn : (outs : List ℕ) (s : List (List ℕ)) (g : List ℕ) (n c h r e : ℕ) (p : List ℕ) → Type 0
+StepIn outs s g n c h r e p = Step outs s g n c h r (e / 3) (e % 3) p
+
+pub in-place : (outs : List ℕ) (s : List (List ℕ)) (g : List ℕ) (n c h r k o e : ℕ) (p : List ℕ) → o < 3 → e ≡ k * 3 + o → Step outs s g n c h r k o p → StepIn outs s g n c h r e p
+unfolding StepIn
+in-place outs s g n c h r k o e p lo q st =
+    let a : e / 3 ≡ k = omega arith in
+    let b : e % 3 ≡ o = omega arith in
+    rw (a, b) st
+
+pub steps-by : (outs : List ℕ) (s : List (List ℕ)) (g : List ℕ) (n c h r : ℕ) (f : List (List ℕ)) → ((e : ℕ) → e < 81 → StepIn outs s g n c h r e (getD f e [])) → Steps outs s g n c h r f
+unfolding StepIn
 steps-by outs s g n c h r f st = record { at = λ u w a o lu lw la lo ne. go u w a o (stepsAt u w a + o) lu lw la lo refl ne }
   where
     go : (u w a o e : ℕ) → u < 3 → w < 3 → a < 3 → o < 3 → e ≡ stepsAt u w a + o → eqb a u ≡ false → Told 3 (getD f e []) (enterOf outs s g n c h r u w a o)
     go u w a o e lu lw la lo q ne =
-        let eu : e / 27 ≡ u = omega arith in
-        let ew : e / 9 % 3 ≡ w = omega arith in
-        let ea : e / 3 % 3 ≡ a = omega arith in
+        let eu : e / 3 / 9 ≡ u = omega arith in
+        let ew : e / 3 / 3 % 3 ≡ w = last-of (e / 3 / 3) u w lw (omega arith) in
+        let ea : e / 3 % 3 ≡ a = last-of (e / 3) (u * 3 + w) a la (omega arith) in
         let eo : e % 3 ≡ o = omega arith in
         (rw (ea, eu, ew, eo) at (st e (omega arith) .told)) ne
 
 -- where the column does not change, no step is told
-pub no-step : (outs : List ℕ) (s : List (List ℕ)) (g : List ℕ) (n c h r k : ℕ) (p : List ℕ) → k / 3 % 3 ≡ k / 27 → Step outs s g n c h r k p
-no-step outs s g n c h r k p e = record { told = λ q. clash (sym (eq-eqb (k / 3 % 3) (k / 27) e) ∙ q) }
+pub no-step : (outs : List ℕ) (s : List (List ℕ)) (g : List ℕ) (n c h r k o : ℕ) (p : List ℕ) → k % 3 ≡ k / 9 → Step outs s g n c h r k o p
+no-step outs s g n c h r k o p e = record { told = λ q. clash (sym (eq-eqb (k % 3) (k / 9) e) ∙ q) }

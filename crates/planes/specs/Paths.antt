@@ -1,6 +1,6 @@
 -- Two steps one after the other, in all lanes at once. Three words that follow each other tell what a step gives for each old output.
 use Prim.Native.Nat.{ℕ, _+_, _*_, _/_, _%_}
-use mathlib.Core.Bool.{Bool, true, cond}
+use mathlib.Core.Bool.{Bool, true, cond, _&&_}
 use mathlib.Core.List.{List, []}
 use lib.Bits.{bitAnd, bitOr, bitXor}
 use lib.Dec.{eqb}
@@ -25,8 +25,10 @@ agreeOf f h p q u v = eqb (bitOr (differOf f h p q u v) (bitOr (differOf f h (p 
 
 -- the two orders agree where the first column goes from a to x and the second from b to y
 unfoldable pub agreeAt : List (List ℕ) → List (List ℕ) → ℕ → ℕ → ℕ → ℕ → Bool
-agreeAt f h x y a b =
-    cond (eqb a x) true (cond (eqb b y) true (agreeOf f h (stepsAt x b a) (stepsAt y x b) (stepsAt y a b) (stepsAt x y a)))
+agreeAt f h x y a b = cond (eqb b y) true (agreeOf f h (stepsAt x b a) (stepsAt y x b) (stepsAt y a b) (stepsAt x y a))
 
+-- whatever value the second comes from; k stands for x, y and a
 unfoldable pub agreeIn : List (List ℕ) → List (List ℕ) → ℕ → Bool
-agreeIn f h k = agreeAt f h (k / 27) (k / 9 % 3) (k / 3 % 3) (k % 3)
+agreeIn f h k =
+    cond (eqb (k % 3) (k / 9)) true
+    (agreeAt f h (k / 9) (k / 3 % 3) (k % 3) 0 && (agreeAt f h (k / 9) (k / 3 % 3) (k % 3) 1 && agreeAt f h (k / 9) (k / 3 % 3) (k % 3) 2))

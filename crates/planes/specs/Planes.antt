@@ -79,9 +79,9 @@ enterOf outs s g n c h r u w a o l =
     orX (answered outs g o (rowsBy s n h c r w o (3 + (a * 3 + u)))
     (λ (l : ℕ). answerIn outs o (bitAnd (bitAnd (besides s g h r w l) (cellAt s n o)) (cellAt s c u))) l)
 
--- the step in place k
-pub record Step (outs : List ℕ) (s : List (List ℕ)) (g : List ℕ) (n c h r k : ℕ) (p : List ℕ) : Type 0 where
-  pub told : eqb (k / 3 % 3) (k / 27) ≡ false → Told 3 p (enterOf outs s g n c h r (k / 27) (k / 9 % 3) (k / 3 % 3) (k % 3))
+-- the step for old output o, where k stands for u, w and a
+pub record Step (outs : List ℕ) (s : List (List ℕ)) (g : List ℕ) (n c h r k o : ℕ) (p : List ℕ) : Type 0 where
+  pub told : eqb (k % 3) (k / 9) ≡ false → Told 3 p (enterOf outs s g n c h r (k / 9) (k / 3 % 3) (k % 3) o)
 
 -- the steps of column c
 pub record Steps (outs : List ℕ) (s : List (List ℕ)) (g : List ℕ) (n c h r : ℕ) (f : List (List ℕ)) : Type 0 where

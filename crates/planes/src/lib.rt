@@ -3,7 +3,7 @@ ghost use mathlib.Core.Bool.{false, true};
 ghost use Prim.Native.Nat.{ℕ, _<_};
 ghost use Rattle.base.specs.Search.{every};
 ghost use Rattle.planes.specs.Planes.{Low, Spread, Closed, rowsBy, Level, Levels, placeOf, Step, Steps, LanesAgree};
-ghost use Rattle.planes.specs.Paths.{pathOf, differOf, agreeOf, agreeIn};
+ghost use Rattle.planes.specs.Paths.{pathOf, differOf, agreeOf, agreeAt, agreeIn};
 
 // All 27 lanes.
 pub const LANES: u32 = 134217727;
@@ -132,14 +132,14 @@ fn step_at(
     turned: bool,
     r: u64,
     k: usize,
+    o: usize,
 ) -> [u32; 3]
-    requires { ⌜ (n < 10) × (c < 10) × (h < 10) × (k < 81) × Low (now outs) × Levels (now outs) (now s) (now g) n c h turned r (now lev) ⌝ }
-    ensures { λ p. ⌜ Step (now (outs .entry)) (now (s .entry)) (now (g .entry)) n c h r k p ⌝ }
+    requires { ⌜ (n < 10) × (c < 10) × (h < 10) × (k < 27) × (o < 3) × Low (now outs) × Levels (now outs) (now s) (now g) n c h turned r (now lev) ⌝ }
+    ensures { λ p. ⌜ Step (now (outs .entry)) (now (s .entry)) (now (g .entry)) n c h r k o p ⌝ }
 {
-    let u = k / 27;
-    let w = k / 9 % 3;
-    let a = k / 3 % 3;
-    let o = k % 3;
+    let u = k / 9;
+    let w = k / 3 % 3;
+    let a = k % 3;
     if a == u {
         return [0u32; 3];
     }
@@ -166,9 +166,13 @@ fn steps(
 {
     let mut f = [[0u32; 3]; 81];
     let mut k: usize = 0;
-    while k < 81 {
-        let p = step_at(g, outs, lev, s, n, c, h, turned, r, k);
-        f[k] = p;
+    while k < 27 {
+        let p = step_at(g, outs, lev, s, n, c, h, turned, r, k, 0);
+        f[k * 3] = p;
+        let q = step_at(g, outs, lev, s, n, c, h, turned, r, k, 1);
+        f[k * 3 + 1] = q;
+        let v = step_at(g, outs, lev, s, n, c, h, turned, r, k, 2);
+        f[k * 3 + 2] = v;
         k += 1;
     }
     f
@@ -198,17 +202,11 @@ fn agree(f: &[[u32; 3]; 81], h: &[[u32; 3]; 81], p: usize, q: usize, u: usize, v
     (first | (second | third)) == 0
 }
 
-fn agree_in(f: &[[u32; 3]; 81], h: &[[u32; 3]; 81], k: usize) -> bool
-    requires { ⌜ k < 81 ⌝ }
-    ensures { λ r. ⌜ r ≡ agreeIn (now (f .entry)) (now (h .entry)) k ⌝ }
+// Both orders agree in every lane where the first column goes from a to x and the second from b to y.
+fn agree_at(f: &[[u32; 3]; 81], h: &[[u32; 3]; 81], x: usize, y: usize, a: usize, b: usize) -> bool
+    requires { ⌜ (x < 3) × (y < 3) × (a < 3) × (b < 3) ⌝ }
+    ensures { λ r. ⌜ r ≡ agreeAt (now (f .entry)) (now (h .entry)) x y a b ⌝ }
 {
-    let x = k / 27;
-    let y = k / 9 % 3;
-    let a = k / 3 % 3;
-    let b = k % 3;
-    if a == x {
-        return true;
-    }
     if b == y {
         return true;
     }
@@ -222,12 +220,25 @@ fn agree_in(f: &[[u32; 3]; 81], h: &[[u32; 3]; 81], k: usize) -> bool
     )
 }
 
+fn agree_in(f: &[[u32; 3]; 81], h: &[[u32; 3]; 81], k: usize) -> bool
+    requires { ⌜ k < 27 ⌝ }
+    ensures { λ r. ⌜ r ≡ agreeIn (now (f .entry)) (now (h .entry)) k ⌝ }
+{
+    let x = k / 9;
+    let y = k / 3 % 3;
+    let a = k % 3;
+    if a == x {
+        return true;
+    }
+    agree_at(f, h, x, y, a, 0) & (agree_at(f, h, x, y, a, 1) & agree_at(f, h, x, y, a, 2))
+}
+
 // Both orders agree in every lane, whatever the two columns' values.
 fn all_agree(f: &[[u32; 3]; 81], h: &[[u32; 3]; 81]) -> bool
-    ensures { λ r. ⌜ r ≡ every 81 (agreeIn (now (f .entry)) (now (h .entry))) ⌝ }
+    ensures { λ r. ⌜ r ≡ every 27 (agreeIn (now (f .entry)) (now (h .entry))) ⌝ }
 {
     let mut k: usize = 0;
-    while k < 81 {
+    while k < 27 {
         if !agree_in(f, h, k) {
             return false;
         }

@@ -9,7 +9,7 @@ pub step-at-spec : {M : Type 1} → statement M
 step-at-spec =
     tie.close
     (tie.spec
-    (λ c. no-step _ _ _ _ _ _ _ _ _ (c .if1 .taken))
+    (λ c. no-step _ _ _ _ _ _ _ _ _ _ (c .if1 .taken))
     (λ c. search needs)
     (λ c. search needs)
     (λ c. search needs)
@@ -23,4 +23,4 @@ step-at-spec =
     (λ c.
     let d = c .before .before in
     let p = d .before .before .before .pre in
-    step-by _ _ _ _ _ _ _ _ _ _ _ _ _ (p .3) (p .5) (d .before .rows-by .ensures) (d .place .ensures .0) (c .closed .ensures)))
+    step-by _ _ _ _ _ _ _ _ _ _ _ _ _ _ (p .3) (p .4) (p .6) (d .before .rows-by .ensures) (d .place .ensures .0) (c .closed .ensures)))
