@@ -179,6 +179,10 @@ pub fn pair_agrees(
     if plain::only_plain(all, steady, edges) {
         return true;
     }
+    // With no other column there is one lane, and the search is as fast.
+    if n < 3 {
+        return false;
+    }
     let t = top_of(i, j, n);
     let u = top_of(i, j, before(t));
     let v = top_of(i, j, before(u));

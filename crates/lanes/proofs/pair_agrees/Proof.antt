@@ -1,5 +1,7 @@
+use mathlib.Core.Path.{sym}
 use native.Mathlib.Omega.{arith}
 use borrow.Author.Needs.{needs}
+use Rattle.base.proofs.Bools.{clash}
 use Rattle.lanes.proofs.Contexts.{pair-by, plain-by}
 use Rattle.lanes.proofs.pair_agrees.Statement.{statement}
 use Rattle.lanes.proofs.pair_agrees.Tie as tie
@@ -16,6 +18,7 @@ pair-agrees-spec =
     plain-by t _ _ _ _ _ _ _ _ G ea
     (record { rows = x .before .steady-rows .ensures; first = x .edges-of .ensures .0; second = x .edges-of .ensures .1 })
     (c .before .only-plain .ensures (c .if1 .taken)))
+    (λ c e. clash (sym e))
     (λ c κs. search needs)
     (λ c κs. search needs)
     (λ c κs. search needs)
@@ -32,7 +35,7 @@ pair-agrees-spec =
     (λ c κs.
     let v = c .before .before .before in
     let p = v .before .before .before .before in
-    let x = p .before .before .before in (
+    let x = p .before .before .before .before in (
       omega arith,
       omega arith,
       omega arith,
