@@ -23,9 +23,4 @@ fn one(inputs: usize, rows: usize) {
         || bankplover::evaluate(&area, &prev, &cur, b'0', &order),
         || second::evaluation::evaluate(&area, &prev, &cur, b'0', &order),
     );
-    clock::line(
-        &format!("well-formedness, {inputs} inputs, {rows} rows"),
-        || bankplover::is_well_formed(&area),
-        || second::area::is_well_formed(&area),
-    );
 }

@@ -4,6 +4,7 @@
 mod book;
 mod clock;
 mod evaluation;
+mod formed;
 mod judging;
 mod lister;
 mod plot;
@@ -15,14 +16,15 @@ use std::process::ExitCode;
 
 const HELP: &str = "\
 bench all                               every measurement that needs no other program
-bench NAME                              one of them: evaluation, reading, judging, book
+bench NAME                              one of them: formed, evaluation, reading, judging, book
 bench lister LISTER.. -- SECOND..       both listers as programs, each given as the words that run it
 bench stack                             the smallest stack in which the judge ends
 bench plot                              what `bench judging` printed, from standard input, as a picture (SVG)
 bench --help                            print this
 ";
 
-const ALL: [(&str, fn()); 4] = [
+const ALL: [(&str, fn()); 5] = [
+    ("formed", formed::run),
     ("evaluation", evaluation::run),
     ("reading", reading::run),
     ("judging", judging::run),

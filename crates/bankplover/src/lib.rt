@@ -167,9 +167,9 @@ pub extern "C" fn bankplover_judge(
     }
 }
 
-fn bit_of(s: [[bool; base::INPUTS]; base::INPUTS], k: usize) -> u8
+fn bit_of(s: &[[bool; base::INPUTS]; base::INPUTS], k: usize) -> u8
     requires { ⌜ k < 81 ⌝ }
-    ensures { λ r. ⌜ r ≡ bitOf s k ⌝ }
+    ensures { λ r. ⌜ r ≡ bitOf (now (s .entry)) k ⌝ }
 {
     if s[k / 9][k % 9] { 1 } else { 0 }
 }
@@ -186,14 +186,15 @@ pub extern "C" fn bankplover_square(
     ensures told { λ _. ⌜ now (answer .exit) ≡ 0 ⌝ }
 {
     *answer = 0;
-    if !formed::well_formed(area) {
+    let s = judge::square(area);
+    // A square whose diagonal is no belongs to no table.
+    if !s[0][0] {
         return 10;
     }
-    let s = judge::square(area);
     let mut l = [0u8; SQUARE];
     let mut k: usize = 0;
     while k < SQUARE {
-        l[k] = bit_of(s, k);
+        l[k] = bit_of(&s, k);
         k += 1;
     }
     *square = l;

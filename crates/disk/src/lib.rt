@@ -10,7 +10,7 @@ pub enum Loaded {
 }
 
 // Reads on from an open file until the buffer is full or the file ends.
-fn load_from(fd: i32, buf: &mut [u8]) -> Loaded
+pub fn load_from(fd: i32, buf: &mut [u8]) -> Loaded
     ensures { λ r. ⌜ Within r (now (buf .exit)) ⌝ }
 {
     let mut n: usize = 0;

@@ -1,7 +1,7 @@
 -- What may stand in a field. Assumes nothing.
 use mathlib.Core.Path.{_≡_, refl, sym}
 use mathlib.Core.Bool.{Bool, true, false, not, cond}
-use mathlib.Core.List.{List}
+use mathlib.Core.List.{List, [], _∷_}
 use mathlib.Core.Option.{Option, none, some}
 use Prim.Native.Nat.{ℕ}
 use Rattle.base.proofs.Bools.{clash}
@@ -12,10 +12,9 @@ use Rattle.symbol.specs.declared.Symbol.the-variants.{Held, Edge, Rise, Fall, P
 use Rattle.symbol.specs.declared.Output.{Output}
 use Rattle.symbol.specs.declared.Output.the-variants.{Outx}
 use Rattle.symbol.specs.Match.{isEdge}
-use Rattle.text.specs.Reader.{bind, give}
-use Rattle.text.specs.Places.{meant}
-use Rattle.text.specs.declared.Step.{Step}
-use Rattle.text.specs.declared.Step.the-variants.{At, Refused}
+use borrow.Author.Tests.{eqb-true}
+use Rattle.text.specs.Bytes.{isSymbol}
+use Rattle.text.specs.Blanks.{begins, one}
 use Rattle.grammar.specs.Rows.{columnOf, mayStand, stateOf, levelIn, levelOut, outputSaid}
 use Rattle.fields.specs.declared.Token.{Token}
 use Rattle.fields.specs.declared.Token.the-variants.{Entry, Dash}
@@ -78,7 +77,7 @@ pub dash-out : (sequential : Bool) → isSome (outputSaid sequential (writtenAs 
 dash-out true = refl
 dash-out false = refl
 
--- a step that gives something else than it read
-pub cut : {A B : Type 0} (t : List ℕ) (f : ℕ → ℕ → A) (b : B) (s : Step) → bind (meant t f s) (λ a. give b) ≡ meant t (λ a e. b) s
-cut t f b (At a e) = refl
-cut t f b (Refused c p) = refl
+-- no symbol begins with a colon
+pub colon-no-symbol : (s : List ℕ) → one 58 s ≡ true → begins isSymbol s ≡ false
+colon-no-symbol [] e = clash (sym e)
+colon-no-symbol (b ∷ l) e = let c : b ≡ 58 = eqb-true b 58 e in rw c

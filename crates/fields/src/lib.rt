@@ -224,15 +224,14 @@ pub fn read_column(text: &[u8], at: usize, edge: bool) -> Piece
     if text::one_at(text, i, b':') {
         return Piece::Refused(7, i);
     }
-    let p = text::skip_from(text, i);
-    let w = read_token(text, p);
+    let w = read_token(text, i);
     let Piece::At(x, e) = w else {
         return w;
     };
     if fits_column(x, edge) {
         return Piece::At(x, e);
     }
-    Piece::Refused(8, p)
+    Piece::Refused(8, i)
 }
 
 // A table symbol begins at a place.
@@ -260,10 +259,13 @@ pub fn read_colon(text: &[u8], at: usize, edge: bool) -> Step
     ensures { λ r. ⌜ columns 0 edge at (drop at (now (text .entry))) ≡ meant (now (text .entry)) (λ a e. []) r ⌝ }
 {
     let i = text::skip_from(text, at);
+    if text::one_at(text, i, b':') {
+        return Step::At(i, i + 1);
+    }
     if symbol_at(text, i) {
         return Step::Refused(7, i);
     }
-    text::read_mark(text, i, b':')
+    text::fault_at(text, i)
 }
 
 // A state with its colon; a combinational row's state counts as `?`.

@@ -52,6 +52,15 @@ of-within : (m limit : ℕ) → 1 ≤ m → m ≤ limit → within m limit ≡ t
 unfolding within
 of-within m limit l h = and (le-leb _ _ l) (le-leb _ _ h)
 
+-- a valid head keeps the limits
+pub head-inputs : (t : Table) → headValid t ≡ true → t .inputs ≤ inputLimit
+unfolding headValid
+head-inputs t e = within-is (t .inputs) inputLimit (both (within (t .inputs) inputLimit) _ e .0) .1
+
+pub head-rows : (t : Table) → headValid t ≡ true → length (t .rows) ≤ rowLimit
+unfolding headValid
+head-rows t e = within-is (length (t .rows)) rowLimit (both (within (length (t .rows)) rowLimit) _ (both (within (t .inputs) inputLimit) _ e .1) .0) .1
+
 pub valid-is : (t : Table) → valid t ≡ true → Valid t
 unfolding valid headValid rowsValid rowsAgree rowAgrees
 valid-is t e =

@@ -1,3 +1,4 @@
 pub mod Contradiction
 pub mod Rows
 pub mod Exact
+pub mod Sets

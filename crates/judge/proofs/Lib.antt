@@ -1,9 +1,9 @@
 pub mod Ranks
 pub mod Findings
+pub mod Pairwise
 pub mod Once
 pub mod Squares
 pub mod Sounds
-pub mod Numbers
 pub mod Lending
-pub mod Agreeing
 pub mod Checked
+pub mod Agreeing

@@ -2,15 +2,21 @@
 use Prim.Native.Nat.{ℕ, suc, _/_, _<_, _≤_}
 use mathlib.Core.Path.{_≡_, refl, sym, ap, _∙_}
 use mathlib.Core.Logic.{_≢_, _↔_, ⊎-elim}
-use mathlib.Core.Bool.{Bool, true, false, not, _&&_, _||_}
-use mathlib.Core.List.{List}
+use mathlib.Core.Bool.{Bool, true, false, not, cond, _&&_, _||_}
+use mathlib.Core.List.{List, []}
 use native.Mathlib.Omega.{arith}
 use lib.Dec.{ltb}
+use lib.ListN.{getD}
 use borrow.Author.Tests.{lt-ltb, le-ltb, ltb-true, not-true, not-false}
 use Rattle.base.specs.Limits.{inputLimit}
+use Rattle.base.specs.Listed.{listed}
 use Rattle.base.specs.Search.{some}
 use Rattle.base.proofs.Bools.{clash, lt-or-ge}
+use Rattle.base.proofs.Listed.{listed-at}
 use Rattle.base.proofs.Search.{some-at, some-none}
+use Rattle.table.specs.Area.{decode}
+use Rattle.formed.specs.Tests.{wellFormed}
+use Rattle.evaluation.specs.Step.{stepOf}
 use Rattle.orders.specs.Order.{Step, Every}
 use Rattle.orders.specs.Pairs.{PairAgrees, Yes}
 use Rattle.orders.specs.Verdict.{candidates, firstNow, secondNow, firstOutput, secondOutput, Disagrees}
@@ -18,7 +24,7 @@ use Rattle.orders.proofs.Places.{vector-put, every-family}
 use Rattle.orders.proofs.Candidates.{same-of, of-same, vector-number, pair-iff}
 use Rattle.evaluation.proofs.Saying.{neither}
 use Rattle.value.specs.Value.{sameValue}
-use Rattle.judge.specs.Judge.{disagree, pairYes}
+use Rattle.judge.specs.Judge.{disagree, pairYes, squareOf, squareFor}
 
 some-false : (f : ℕ → Bool) (n k : ℕ) → some n f ≡ false → k < n → (b : Bool) → f k ≡ b → b ≡ false
 some-false f n k e h true q = clash (sym (some-at f n k h q) ∙ e)
@@ -55,3 +61,18 @@ module _ (n : ℕ) (phi : Step) where
     λ e. let q = neither _ _ (not-true _ e) in (half i j lj .0 (q .0), half j i li .0 (q .1)),
     λ y. rw (half i j lj .1 (y .0), half j i li .1 (y .1)),
   )
+
+-- the first answer of a square tells whether the area is well formed
+first-answer : (a : List ℕ) → getD (getD (squareFor a) 0 []) 0 false ≡ wellFormed a
+unfolding squareFor squareOf pairYes
+first-answer a = go (wellFormed a)
+  where
+    go : (b : Bool) → getD (getD (cond b (squareOf (decode a .inputs) (stepOf (decode a))) (listed (λ (i : ℕ). listed (λ (j : ℕ). false) inputLimit) inputLimit)) 0 []) 0 false ≡ b
+    go true =
+        rw (listed-at (λ (i : ℕ). listed (pairYes (decode a .inputs) (stepOf (decode a)) i) inputLimit) inputLimit 0 [] (omega arith))
+        (listed-at (pairYes (decode a .inputs) (stepOf (decode a)) 0) inputLimit 0 false (omega arith))
+    go false =
+        rw (listed-at (λ (i : ℕ). listed (λ (j : ℕ). false) inputLimit) inputLimit 0 [] (omega arith)) (listed-at (λ (j : ℕ). false) inputLimit 0 false (omega arith))
+
+pub formed-by : (a : List ℕ) (s : List (List Bool)) (b : Bool) → s ≡ squareFor a → getD (getD s 0 []) 0 false ≡ b → wellFormed a ≡ b
+formed-by a s b e h = sym (first-answer a) ∙ rw (← e) h

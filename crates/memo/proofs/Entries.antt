@@ -1,35 +1,37 @@
 -- What is worked out from the masks is what the step answers. Assumes nothing.
-use Prim.Native.Nat.{ℕ, zero, suc, _+_, _-_, _*_, _/_, _%_, _^_, _<_, _≤_}
+use Prim.Native.Nat.{ℕ, zero, suc, _+_, _-_, _*_, _/_, _%_, _<_, _≤_}
 use mathlib.Core.Path.{_≡_, refl, sym, ap, _∙_}
 use mathlib.Core.Logic.{⊎-elim}
 use mathlib.Core.Bool.{Bool, true, false, cond, _&&_}
-use mathlib.Core.List.{List, [], _∷_}
+use mathlib.Core.List.{List, []}
 use native.Mathlib.Nat.{eq-or-lt-of-le, le-of-suc-le-suc}
 use native.Mathlib.Omega.{arith}
 use lib.Bits.{bitAnd}
-use lib.Dec.{eqb, ltb}
+use lib.Dec.{eqb}
 use lib.ListN.{getD, length}
-use borrow.Author.Tests.{eqb-true, eqb-false, eq-eqb, ne-eqb, lt-ltb, le-ltb}
-use Rattle.base.specs.Search.{every, first}
+use borrow.Author.Tests.{eqb-true, eq-eqb, ne-eqb, lt-ltb, le-ltb}
+use Rattle.base.specs.Search.{every}
 use Rattle.base.proofs.Search.{every-same}
-use Rattle.base.specs.Limits.{inputLimit, rowLimit}
+use Rattle.base.specs.Limits.{inputLimit}
 use Rattle.base.proofs.Listed.{listed-at}
 use Rattle.value.specs.declared.Ternary.{Ternary}
-use Rattle.value.specs.declared.Ternary.the-variants.{V0, Vx}
+use Rattle.value.specs.declared.Ternary.the-variants.{V0}
 use Rattle.value.specs.Value.{rankOf, valueOf, sameValue}
-use Rattle.symbol.specs.declared.Symbol.{Symbol}
-use Rattle.symbol.specs.declared.Symbol.the-variants.{Held}
 use Rattle.symbol.specs.Match.{matchField, matchHeld, matchChange, matchLevel, offered}
-use Rattle.table.specs.Table.{Row, Table, rowAt, symbolAt}
+use Rattle.table.specs.Table.{Table, rowAt, symbolAt}
 use Rattle.table.specs.Match.{fieldOf, columnsMatch, rowMatches}
 use Rattle.orders.specs.Vectors.{at, put, vectorOf}
+use Rattle.orders.specs.Order.{Step}
 use Rattle.orders.proofs.Candidates.{rank-value, length-vectorOf}
 use Rattle.orders.proofs.Digits.{digitOf, digit-low, value-digit, last-value, earlier-value}
-use Rattle.evaluation.specs.Step.{rowFor, answerOr, answerOf, stepOf}
+use Rattle.evaluation.specs.Step.{rowFor, answerOf, stepOf}
 use Rattle.evaluation.proofs.Laws.{step-arrives}
-use Rattle.memo.specs.Memo.{kept}
 use Rattle.memo.specs.Rows.{maskOf, lowest, columnOf, offeredRows, allRows, cellRow, cells, cellAt, restOf, outBy, entryOf, Small}
 use Rattle.memo.proofs.Masks.{mask-and, mask-ext, lowest-first}
+
+-- what the step answers where input k + 1 arrives from value number x at its value in vector number v, the old output being value number o
+unfoldable pub kept : ℕ → Step → ℕ → ℕ → ℕ → ℕ → ℕ
+kept n phi k v x o = rankOf (phi (put (vectorOf n v) (suc k) (valueOf x)) (vectorOf n v) (suc k) (valueOf o))
 
 and-swap : (a b c : Bool) → ((a && b) && c) ≡ ((a && c) && b)
 and-swap true true true = refl

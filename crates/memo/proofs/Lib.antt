@@ -1,4 +1,5 @@
 pub mod Masks
 pub mod Entries
-pub mod Filling
-pub mod Steps
+pub mod Others
+pub mod Outputs
+pub mod Offers

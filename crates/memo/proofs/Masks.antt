@@ -7,12 +7,12 @@ use native.Mathlib.Nat.{pow-suc, eq-zero-or-pos, lt-of-lt-of-le, pow-le-pow-righ
 use native.Mathlib.Omega.{arith}
 use lib.Bits.{bitAnd, and-step}
 use lib.Count.{trailingZeros, under}
-use lib.Dec.{eqb, lit<}
+use lib.Dec.{lit<}
 use borrow.Author.Tests.{eq-eqb, ne-eqb}
 use Rattle.base.specs.Search.{first, firstFrom}
 use Rattle.memo.specs.Rows.{maskFrom, maskOf, lowest}
 
-abbrev digit : Bool → ℕ
+abbrev pub digit : Bool → ℕ
 digit b = cond b 1 0
 
 digit-small : (b : Bool) → digit b < 2
@@ -26,10 +26,10 @@ digit-and false true = refl
 digit-and false false = refl
 
 -- a number with a lowest digit put below it
-half : (x : ℕ) (b : Bool) → (x * 2 + digit b) / 2 ≡ x
+pub half : (x : ℕ) (b : Bool) → (x * 2 + digit b) / 2 ≡ x
 half x b = omega (arith, digit-small b)
 
-low : (x : ℕ) (b : Bool) → (x * 2 + digit b) % 2 ≡ digit b
+pub low : (x : ℕ) (b : Bool) → (x * 2 + digit b) % 2 ≡ digit b
 low x b = omega (arith, digit-small b)
 
 -- two sets, and the numbers in both
@@ -54,7 +54,7 @@ pub mask-ext : (f g : ℕ → Bool) (n : ℕ) → ((k : ℕ) → f k ≡ g k) �
 unfolding maskOf
 mask-ext f g n e = ext-from f g e 0 n
 
-mask-lt : (f : ℕ → Bool) (i m : ℕ) → maskFrom f i m < 2 ^ m
+pub mask-lt : (f : ℕ → Bool) (i m : ℕ) → maskFrom f i m < 2 ^ m
 unfolding maskFrom
 mask-lt f i zero = omega arith
 mask-lt f i (suc m) = rw (pow-suc 2 m) (omega (arith, mask-lt f (suc i) m, digit-small (f i)))

@@ -1,3 +1,3 @@
-pub mod Memo
 pub mod Rows
 pub mod Pair
+pub mod Offers

@@ -1,6 +1,5 @@
 -- Sets of rows as numbers: bit i is set where row i is in the set.
-use Prim.Native.Nat.{ℕ, zero, suc, _+_, _-_, _*_, _/_, _%_, _^_, _<_, _≤_}
-use mathlib.Core.Path.{_≡_}
+use Prim.Native.Nat.{ℕ, zero, suc, _+_, _-_, _*_, _/_, _%_, _≤_}
 use mathlib.Core.Bool.{Bool, true, cond}
 use mathlib.Core.List.{List, []}
 use lib.Bits.{bitAnd}
@@ -72,14 +71,3 @@ entryOf t s j rest d x o =
 pub record Small (t : Table) : Type 0 where
   pub inputs : t .inputs ≤ inputLimit
   pub rows : length (t .rows) ≤ rowLimit
-
--- what is handed to the filling of input j + 1: the masks of the table, and the place b of its first block
-pub record Ready (t : Table) (s : List (List ℕ)) (all n j b m w : ℕ) : Type 0 where
-  pub small : Small t
-  pub cells-are : s ≡ cells t
-  pub all-are : all ≡ allRows t
-  pub inputs-are : n ≡ t .inputs
-  pub within : j < n
-  pub block : b ≡ j * 3 ^ n
-  pub vectors : m ≡ 3 ^ n
-  pub weight : w ≡ 3 ^ (n - suc j)

@@ -16,7 +16,7 @@ use Rattle.text.specs.Words.{same, member}
 use Rattle.text.specs.Blanks.{more}
 use Rattle.text.proofs.Wordlaws.{same-eq}
 use Rattle.grammar.specs.Header.{remove, noneLeft}
-use Rattle.ports.specs.Heads.{find, placed, down, isDown, allUp, Distinct}
+use Rattle.ports.specs.Ports.{find, placed, down, isDown, allUp, Distinct}
 
 pub or-false : (a b : Bool) → (a || b) ≡ false → (a ≡ false) × (b ≡ false)
 or-false true b e = clash e

@@ -15,9 +15,8 @@ use Rattle.base.specs.Listed.{listed}
 use Rattle.base.proofs.Listed.{listed-length, listed-at, listed-is}
 use Rattle.text.specs.Words.{same, member}
 use Rattle.text.specs.Places.{part}
-use Rattle.text.specs.Reader.{bind}
-use Rattle.grammar.specs.Header.{ports, remove, noneLeft, declarations, declarationRoom}
-use Rattle.ports.specs.Heads.{portAt, portsOf, placed, find, down, isDown, allUp, headWith, Distinct, Kept}
+use Rattle.grammar.specs.Header.{ports, remove, noneLeft}
+use Rattle.ports.specs.Ports.{portAt, portsOf, placed, find, down, isDown, allUp, Distinct, Kept}
 use Rattle.ports.proofs.Flags.{member-find, distinct-snoc, fresh-is, fresh-raised, output-left, output-raised, none-left}
 
 module _ (t starts ends : List ℕ) where
@@ -121,12 +120,3 @@ pub going-none : (t : List ℕ) (at a e : ℕ) (starts ends : List ℕ) → leng
     → Going t at a e (a ∷ starts) (e ∷ ends) at 0
 unfolding listed
 going-none t at a e starts ends p q = record { long-starts = p; long-ends = q; kept = kept-none t a e starts ends; said = refl }
-
--- the declarations behind n inputs that are kept
-pub sized : (t starts ends : List ℕ) (n a e k : ℕ) (s : List ℕ) → portAt t starts ends 0 ≡ part t a e
-    → bind (declarations declarationRoom (part t a e) (part t a e ∷ drop 1 (portsOf t starts ends (n + 1))) false k s) (headWith (length (drop 1 (portsOf t starts ends (n + 1)))))
-    ≡ bind (declarations declarationRoom (portAt t starts ends 0) (portsOf t starts ends (n + 1)) false k s) (headWith n)
-sized t starts ends n a e k s first =
-    let c : part t a e ∷ drop 1 (portsOf t starts ends (n + 1)) ≡ portsOf t starts ends (n + 1) = sym (ports-cons t starts ends n ∙ ap (λ (v : List ℕ). v ∷ drop 1 (portsOf t starts ends (n + 1))) first) in
-    let m : length (drop 1 (portsOf t starts ends (n + 1))) ≡ n = length-drop 1 (portsOf t starts ends (n + 1)) ∙ omega (arith, ports-length t starts ends (n + 1)) in
-    rw (c, m, first)

@@ -24,8 +24,8 @@ use Rattle.grammar.specs.Rows.{rows}
 use Rattle.grammar.specs.Reading.{primitive, end, outcome, orEnd}
 use Rattle.grammar.proofs.Post.{Gives, after, past, given, checked}
 use Rattle.grammar.proofs.Gives.{port-list-few}
-use Rattle.ports.specs.declared.Head.{Head}
-use Rattle.ports.specs.Heads.{head, headWith}
+use Rattle.header.specs.declared.Head.{Head}
+use Rattle.header.specs.Heads.{head, headWith}
 use Rattle.reading.specs.Told.{out, drawn, withRows, Begun}
 use Rattle.reading.specs.declared.Reading.{Reading}
 use Rattle.reading.proofs.Drawing.{head-begun}

@@ -14,7 +14,7 @@ ghost use Rattle.grammar.specs.Reading.{primitive};
 ghost use Rattle.grammar.proofs.Flags.{behind};
 ghost use Rattle.reading.specs.Told.{out, readInto, refusalOf, drawn, rowTail, withRows, Begun};
 use fields::Piece;
-use ports::HeadStep;
+use header::HeadStep;
 use symbol::Level;
 use symbol::Symbol;
 use text::Step;
@@ -142,9 +142,9 @@ fn read_primitive(text: &[u8], at: usize, draft: &mut [u8]) -> Step
     let Step::At(a, e) = w else {
         return w;
     };
-    let h = ports::read_head(text, e);
+    let h = header::read_head(text, e);
     let HeadStep::At(head, j) = h else {
-        return ports::raised(h);
+        return header::raised(h);
     };
     let n = head.inputs;
     let sequential = head.sequential;

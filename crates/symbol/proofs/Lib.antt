@@ -1,2 +1,4 @@
 pub mod Stores
 pub mod Meet
+pub mod Masks
+pub mod Offers

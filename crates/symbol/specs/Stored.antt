@@ -1,7 +1,7 @@
 -- How levels, symbols and outputs are stored: as small letters, a pair in two places, any other symbol with a zero behind it.
 use Prim.Native.Nat.{ℕ}
 use Prim.Native.Char.{code}
-use mathlib.Core.Bool.{cond}
+use mathlib.Core.Bool.{Bool, cond, _&&_}
 use lib.Dec.{eqb}
 use Rattle.value.specs.declared.Ternary.{Ternary}
 use Rattle.value.specs.declared.Ternary.the-variants.{V0, V1, Vx}
@@ -65,6 +65,16 @@ outputByte Old = code "-"
 -- the output of a byte; any other byte counts as -
 unfoldable pub outputOf : ℕ → Output
 outputOf b = cond (eqb b (code "0")) Out0 (cond (eqb b (code "1")) Out1 (cond (eqb b (code "x")) Outx Old))
+
+-- the bytes that store something, and not only read as it
+unfoldable pub storesLevel : ℕ → Bool
+storesLevel b = eqb b (levelByte (levelOf b))
+
+unfoldable pub storesSymbol : ℕ → ℕ → Bool
+storesSymbol b c = eqb c (secondByte (symbolOf b c)) && eqb b (symbolByte (symbolOf b c))
+
+unfoldable pub storesOutput : ℕ → Bool
+storesOutput b = eqb b (outputByte (outputOf b))
 
 -- what a row with this output answers: - means the old output
 unfoldable pub resultOf : Output → Ternary → Ternary

@@ -1,6 +1,8 @@
 ghost use mathlib.Core.Path.{_≡_};
 ghost use Rattle.symbol.specs.Match.{matchLevel, matchEdge, matchHeld, matchChange, matchField, isEdge, offered, meet, possible};
-ghost use Rattle.symbol.specs.Stored.{levelByte, levelOf, symbolByte, secondByte, letterOf, symbolOf, outputByte, outputOf, resultOf};
+ghost use Rattle.symbol.specs.Masks.{offers};
+ghost use Rattle.symbol.specs.Stored.{levelByte, levelOf, symbolByte, secondByte, letterOf, symbolOf, outputByte, outputOf, storesLevel, storesSymbol, storesOutput, resultOf};
+ghost use Rattle.symbol.specs.declared.Symbol.the-variants.{Held, Edge};
 use value::Ternary;
 
 // A level symbol: 0, 1, x, b, ?.
@@ -139,14 +141,9 @@ pub fn is_offered(s: Symbol, c: usize) -> bool
 pub fn symbols_meet(s: Symbol, u: Symbol) -> bool
     ensures { λ r. ⌜ r ≡ meet s u ⌝ }
 {
-    let mut c: usize = 0;
-    while c < 12 {
-        if is_offered(s, c) & is_offered(u, c) {
-            return true;
-        }
-        c += 1;
-    }
-    false
+    let a = offers_of(symbol_byte(s), second_byte(s));
+    let b = offers_of(symbol_byte(u), second_byte(u));
+    (a & b) != 0
 }
 
 // Something matches the symbol: it is none of (00), (11), (xx).
@@ -231,6 +228,97 @@ pub fn symbol_of(b: u8, c: u8) -> Symbol
     Symbol::Edge(level_of(b), level_of(c))
 }
 
+// What the level of a byte may be offered, if it matches: bit 0 for 0, bit 1 for 1, bit 2 for x.
+pub fn level_offers(b: u8) -> u16
+    ensures { λ r. ⌜ r ≡ offers (Held (levelOf b)) ⌝ }
+{
+    match b {
+        b'0' => 1,
+        b'1' => 2,
+        b'x' => 4,
+        b'b' => 3,
+        _ => 7,
+    }
+}
+
+// The same for a pair: from bit 3 on the changes from 0, from 1 and from x, three bits each.
+fn pair_offers(b: u8, c: u8) -> u16
+    ensures { λ r. ⌜ r ≡ offers (Edge (levelOf b) (levelOf c)) ⌝ }
+{
+    let w = level_offers(c);
+    let from_zero = (w & 6) * 8;
+    let from_one = (w & 5) * 64;
+    let from_x = (w & 3) * 512;
+    match b {
+        b'0' => from_zero,
+        b'1' => from_one,
+        b'x' => from_x,
+        b'b' => from_zero + from_one,
+        _ => from_zero + from_one + from_x,
+    }
+}
+
+// The same for a letter.
+fn letter_offers(b: u8) -> u16
+    ensures { λ r. ⌜ r ≡ offers (letterOf b) ⌝ }
+{
+    match b {
+        b'r' => 16,
+        b'f' => 64,
+        b'p' => 1072,
+        b'n' => 832,
+        b'*' => 1904,
+        _ => level_offers(b),
+    }
+}
+
+// The same for the symbol that two stored bytes stand for.
+pub fn offers_of(b: u8, c: u8) -> u16
+    ensures { λ r. ⌜ r ≡ offers (symbolOf b c) ⌝ }
+{
+    if c == 0 {
+        return letter_offers(b);
+    }
+    pair_offers(b, c)
+}
+
+// A byte is the one that stores its level.
+pub fn stores_level(b: u8) -> bool
+    ensures { λ r. ⌜ r ≡ storesLevel b ⌝ }
+{
+    match b {
+        b'0' => true,
+        b'1' => true,
+        b'x' => true,
+        b'b' => true,
+        b'?' => true,
+        _ => false,
+    }
+}
+
+fn stores_letter(b: u8) -> bool
+    ensures { λ r. ⌜ r ≡ storesSymbol b 0 ⌝ }
+{
+    match b {
+        b'r' => true,
+        b'f' => true,
+        b'p' => true,
+        b'n' => true,
+        b'*' => true,
+        _ => stores_level(b),
+    }
+}
+
+// Two bytes are those that store their symbol.
+pub fn stores_symbol(b: u8, c: u8) -> bool
+    ensures { λ r. ⌜ r ≡ storesSymbol b c ⌝ }
+{
+    if c == 0 {
+        return stores_letter(b);
+    }
+    stores_level(c) & stores_level(b)
+}
+
 pub fn output_byte(o: Output) -> u8
     ensures { λ r. ⌜ r ≡ outputByte o ⌝ }
 {
@@ -250,6 +338,19 @@ pub fn output_of(b: u8) -> Output
         b'1' => Output::Out1,
         b'x' => Output::Outx,
         _ => Output::Old,
+    }
+}
+
+// A byte is the one that stores its output.
+pub fn stores_output(b: u8) -> bool
+    ensures { λ r. ⌜ r ≡ storesOutput b ⌝ }
+{
+    match b {
+        b'0' => true,
+        b'1' => true,
+        b'x' => true,
+        b'-' => true,
+        _ => false,
     }
 }
 

@@ -2,3 +2,4 @@ pub mod Table
 pub mod Match
 pub mod Places
 pub mod Area
+pub mod Parts

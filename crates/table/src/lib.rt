@@ -1,9 +1,14 @@
 ghost use mathlib.Core.Path.{_≡_};
 ghost use mathlib.Core.List.{List};
-ghost use Prim.Native.Nat.{_+_, _*_, _<_, _≤_};
+ghost use Prim.Native.Nat.{_+_, _-_, _*_, _<_, _≤_};
 ghost use lib.ListN.{length, getD};
+ghost use Rattle.base.specs.Search.{every};
+ghost use Rattle.symbol.specs.Masks.{offers};
+ghost use Rattle.symbol.specs.declared.Symbol.the-variants.{Held};
+ghost use Rattle.table.specs.Places.{rowsAt, rowSize};
 ghost use Rattle.table.specs.Table.{rowAt, symbolAt};
-ghost use Rattle.table.specs.Area.{kindByte, symbolPart, rowByte, rowsByte, areaByte, orX, decode, canonical};
+ghost use Rattle.table.specs.Area.{kindByte, symbolPart, orX, decode, canonical};
+ghost use Rattle.table.specs.Parts.{asEncoded, rowAsEncoded, zeroFrom, Lesser};
 use symbol::Level;
 use symbol::Output;
 use symbol::Symbol;
@@ -110,6 +115,30 @@ pub fn symbol_in(a: &[u8], i: usize, k: usize) -> Symbol
     symbol::symbol_of(byte_at(a, at + 2 * k), byte_at(a, at + (2 * k + 1)))
 }
 
+// What that column may be offered, if the row matches, as a set.
+pub fn offers_in(a: &[u8], i: usize, k: usize) -> u16
+    ensures { λ r. ⌜ r ≡ offers (symbolAt (rowAt (decode (now (a .entry))) i) k) ⌝ }
+{
+    if rows(a) <= i {
+        return symbol::level_offers(b'?');
+    }
+    if inputs(a) <= k {
+        return symbol::level_offers(b'?');
+    }
+    let at = ROWS_AT + i * ROW_SIZE;
+    symbol::offers_of(byte_at(a, at + 2 * k), byte_at(a, at + (2 * k + 1)))
+}
+
+// The same for the state.
+pub fn state_offers(a: &[u8], i: usize) -> u16
+    ensures { λ r. ⌜ r ≡ offers (Held (rowAt (decode (now (a .entry))) i .state)) ⌝ }
+{
+    if rows(a) <= i {
+        return symbol::level_offers(b'?');
+    }
+    symbol::level_offers(byte_at(a, ROWS_AT + i * ROW_SIZE + STATE_AT))
+}
+
 pub fn state_in(a: &[u8], i: usize) -> Level
     ensures { λ r. ⌜ r ≡ rowAt (decode (now (a .entry))) i .state ⌝ }
 {
@@ -143,75 +172,106 @@ pub fn symbol_part(s: Symbol, m: usize) -> u8
     symbol::second_byte(s)
 }
 
-// What the encoding of the table that `a` holds has at place k of row i.
-fn row_byte(a: &[u8], i: usize, k: usize) -> u8
+fn lesser(x: usize, y: usize) -> usize
+    ensures { λ r. ⌜ Lesser x y r ⌝ }
+{
+    if x < y { x } else { y }
+}
+
+// The bytes from one place up to another are zero; past the end they are.
+fn are_zero(a: &[u8], from: usize, to: usize) -> bool
+    ensures { λ r. ⌜ r ≡ zeroFrom (now (a .entry)) from (to - from) ⌝ }
+{
+    let end = lesser(to, a.len());
+    let mut all = true;
+    let mut p = from;
+    while p < end {
+        all = all & (a[p] == 0);
+        p += 1;
+    }
+    all
+}
+
+// The name, what stands behind it, the kind and the starting value are as the encoding has them.
+fn head_stored(a: &[u8]) -> bool
+    ensures { λ r. ⌜ r ≡ every rowsAt (asEncoded (now (a .entry))) ⌝ }
+{
+    let n = base::wide(byte_at(a, 0));
+    if n != name_length(a) {
+        return false;
+    }
+    if !are_zero(a, NAME_AT + n, KIND_AT) {
+        return false;
+    }
+    if byte_at(a, KIND_AT) != kind_byte(sequential(a)) {
+        return false;
+    }
+    byte_at(a, START_AT) == start(a).to_byte()
+}
+
+// The first n columns of row i.
+fn columns_stored(a: &[u8], i: usize, n: usize) -> bool
+    requires { ⌜ (i < length (decode (now a) .rows)) × (n ≤ decode (now a) .inputs) × (2 * n ≤ rowSize) ⌝ }
+    ensures { λ r. ⌜ r ≡ rowAsEncoded (now (a .entry)) i (2 * n) ⌝ }
+{
+    let at = ROWS_AT + i * ROW_SIZE;
+    let mut all = true;
+    let mut k: usize = 0;
+    while k < n {
+        let b = byte_at(a, at + 2 * k);
+        let c = byte_at(a, at + (2 * k + 1));
+        all = all & symbol::stores_symbol(b, c);
+        k += 1;
+    }
+    all
+}
+
+// Row i; where there are more columns than a row has room for, they take all of it.
+fn row_stored(a: &[u8], i: usize) -> bool
     requires { ⌜ i < length (decode (now a) .rows) ⌝ }
-    ensures { λ r. ⌜ r ≡ rowByte (rowAt (decode (now (a .entry))) i) k ⌝ }
+    ensures { λ r. ⌜ r ≡ rowAsEncoded (now (a .entry)) i rowSize ⌝ }
 {
-    if k < 2 * inputs(a) {
-        return symbol_part(symbol_in(a, i, k / 2), k % 2);
+    let n = inputs(a);
+    if base::INPUTS < n {
+        return columns_stored(a, i, ROW_SIZE / 2);
     }
-    if k == STATE_AT {
-        return symbol::level_byte(state_in(a, i));
+    if !columns_stored(a, i, n) {
+        return false;
     }
-    if k == OUTPUT_AT {
-        return symbol::output_byte(output_in(a, i));
+    let at = ROWS_AT + i * ROW_SIZE;
+    if !are_zero(a, at + 2 * n, at + STATE_AT) {
+        return false;
     }
-    0
+    let state = byte_at(a, at + STATE_AT);
+    let output = byte_at(a, at + OUTPUT_AT);
+    symbol::stores_level(state) & symbol::stores_output(output)
 }
 
-// The same at place q of the rows.
-fn rows_byte(a: &[u8], q: usize) -> usize
-    ensures { λ r. ⌜ r ≡ rowsByte (decode (now (a .entry))) q ⌝ }
+// The first m rows.
+fn rows_stored(a: &[u8], m: usize) -> bool
+    requires { ⌜ m ≤ length (decode (now a) .rows) ⌝ }
+    ensures { λ r. ⌜ r ≡ every m (λ i. rowAsEncoded (now (a .entry)) i rowSize) ⌝ }
 {
-    let i = q / ROW_SIZE;
-    if i < rows(a) {
-        return base::wide(row_byte(a, i, q % ROW_SIZE));
+    let mut i: usize = 0;
+    while i < m {
+        if !row_stored(a, i) {
+            return false;
+        }
+        i += 1;
     }
-    0
-}
-
-fn name_byte(a: &[u8], k: usize) -> u8
-    ensures { λ r. ⌜ r ≡ getD (decode (now (a .entry)) .name) k 0 ⌝ }
-{
-    byte_at(name_in(a), k)
-}
-
-// What the encoding of the table that `a` holds has at place p.
-fn byte_for(a: &[u8], p: usize) -> usize
-    ensures { λ r. ⌜ r ≡ areaByte (decode (now (a .entry))) p ⌝ }
-{
-    if p < NAME_AT {
-        return name_length(a);
-    }
-    if p < KIND_AT {
-        return base::wide(name_byte(a, p - NAME_AT));
-    }
-    if p < INPUTS_AT {
-        return base::wide(kind_byte(sequential(a)));
-    }
-    if p < START_AT {
-        return inputs(a);
-    }
-    if p < COUNT_AT {
-        return base::wide(start(a).to_byte());
-    }
-    if p < ROWS_AT {
-        return rows(a);
-    }
-    rows_byte(a, p - ROWS_AT)
+    true
 }
 
 // Each byte is the one that the encoding of the table has there.
 pub fn is_canonical(a: &[u8]) -> bool
     ensures { λ r. ⌜ r ≡ canonical (now (a .entry)) ⌝ }
 {
-    let mut p: usize = 0;
-    while p < AREA {
-        if base::wide(byte_at(a, p)) != byte_for(a, p) {
-            return false;
-        }
-        p += 1;
+    if !head_stored(a) {
+        return false;
     }
-    true
+    let m = lesser(base::ROWS, rows(a));
+    if !rows_stored(a, m) {
+        return false;
+    }
+    are_zero(a, ROWS_AT + m * ROW_SIZE, AREA)
 }

@@ -1,18 +1,19 @@
 -- Blanks and comments at a place of a text. Assumes nothing.
-use mathlib.Core.Path.{_≡_, refl, sym, _∙_}
+use mathlib.Core.Path.{_≡_, refl, sym, subst, _∙_}
 use mathlib.Core.Bool.{Bool, true, false, not, cond, _&&_, and-false, false≢true, and-eq-true-iff}
 use mathlib.Core.Option.{Option, none, some}
 use mathlib.Core.List.{List, [], _∷_}
-use Prim.Native.Nat.{ℕ, zero, suc, _+_, _≤_, _<_}
+use Prim.Native.Nat.{ℕ, zero, suc, pred, _+_, _≤_, _<_}
 use native.Mathlib.Omega.{arith}
 use native.Mathlib.Numerals.{add-one}
 use native.Mathlib.Nat.{zero-add, add-zero}
 use lib.Dec.{T, eqb, eqb→eq, eqb·suc-zero}
 use lib.ListN.{length, getD, take, drop, length-drop, drop-of-length-le}
+use borrow.Author.Tests.{eqb-true, ne-eqb}
 use lib.Seq.{drop-cons, drop-drop}
 use Rattle.text.specs.Bytes.{isBlank, is}
 use Rattle.text.specs.Blanks.{one, two, toLine, more, toClose, closed, gap, endless, isNone}
-use Rattle.text.specs.Reader.{got, pass, skip}
+use Rattle.text.specs.Reader.{Result, got, refused, pass, skip}
 use mathlib.Core.Logic.{_≢_}
 
 module _ (t : List ℕ) (i : ℕ) where
@@ -154,3 +155,36 @@ module _ (t : List ℕ) (i : ℕ) where
   -- where a byte stands there is a place behind it
   pub one-room : (c : ℕ) (b : Bool) → b ≡ one c (drop i t) → b ≡ true → i < length t
   one-room c b e h = omega (arith, one-long c (drop i t) (sym e ∙ h), length-drop i t)
+
+module _ (t : List ℕ) (i : ℕ) where
+  -- a byte that is a blank is passed
+  pub blank-on : (c : ℕ) → isBlank c ≡ true → one c (drop i t) ≡ true → skip i (drop i t) ≡ skip (i + 1) (drop (i + 1) t)
+  blank-on c e o =
+      let h : i < length t = omega (arith, one-long c (drop i t) o, length-drop i t) in
+      let b : getD t i 0 ≡ c = eqb-true _ _ (sym (one-cons t i c h) ∙ o) in
+      skip-on t i h 1 (gap-cons t i h ∙ rw (b, e)) (λ z. omega arith)
+
+  -- above the space only `/` begins a gap
+  pub plain-stop : i < length t → 32 < getD t i 0 → (getD t i 0 ≡ 47 → ⊥) → skip i (drop i t) ≡ got tt i (drop i t)
+  plain-stop h g n =
+      let no : one 47 (drop i t) ≡ false = one-cons t i 47 h ∙ ne-eqb _ _ n in
+      skip-stop t i h
+      (gap-cons t i h
+      ∙ rw (ne-eqb (getD t i 0) 32 (λ e. omega arith), ne-eqb (getD t i 0) 9 (λ e. omega arith), ne-eqb (getD t i 0) 13 (λ e. omega arith), ne-eqb (getD t i 0) 10 (λ e. omega arith), ne-eqb (getD t i 0) 12 (λ e. omega arith), two-at t i 47 47, two-at t i 47 42, no))
+
+-- behind blanks there are none to skip
+abbrev Still : Result (Unit {0}) → Type 0
+Still (got a k s) = skip k s ≡ got tt k s
+Still (refused c p) = Unit {0}
+
+pass-still : (m k : ℕ) (s : List ℕ) → Still (pass m k s)
+pass-still m k [] = refl
+pass-still zero k (b ∷ l) = go (eqb (gap (b ∷ l)) 0) refl (pass-still (pred (gap (b ∷ l))) (suc k) l)
+  where
+    go : (c : Bool) → eqb (gap (b ∷ l)) 0 ≡ c → Still (pass (pred (gap (b ∷ l))) (suc k) l) → Still (cond c (got tt k (b ∷ l)) (pass (pred (gap (b ∷ l))) (suc k) l))
+    go true e h = rw e
+    go false e h = h
+pass-still (suc m) k (b ∷ l) = pass-still m (suc k) l
+
+pub skip-still : (k r : ℕ) (s u : List ℕ) → skip k s ≡ got tt r u → skip r u ≡ got tt r u
+skip-still k r s u e = subst Still e (pass-still 0 k s)

@@ -1,5 +1,5 @@
 -- Words and names at a place of a text. Assumes nothing.
-use mathlib.Core.Path.{_≡_, refl, sym}
+use mathlib.Core.Path.{_≡_, refl, sym, ap, _∙_}
 use mathlib.Core.Bool.{Bool, true, false, not, cond, _&&_}
 use mathlib.Core.List.{List, [], _∷_}
 use Prim.Native.Nat.{ℕ, suc, _+_, _-_, _≤_, _<_}
@@ -7,13 +7,13 @@ use native.Mathlib.Numerals.{add-one}
 use native.Mathlib.Nat.{add-zero}
 use native.Mathlib.Omega.{arith}
 use mathlib.Core.Logic.{⊎-elim}
-use lib.Dec.{eqb, leb}
+use lib.Dec.{eqb, leb, leb·suc-zero, leb·suc-suc}
 use borrow.Author.Tests.{lt-leb, le-leb, eqb-true}
 use Rattle.base.proofs.Bools.{lt-or-ge, both, clash}
 use lib.ListN.{take, drop, length, getD, length-drop, drop-of-length-le}
 use lib.Seq.{drop-cons, drop-drop, take-all, take-nil}
 use Rattle.text.specs.Bytes.{starts, inName}
-use Rattle.text.specs.Reader.{got, run, with}
+use Rattle.text.specs.Reader.{Result, got, refused, run, with}
 use Rattle.text.specs.Places.{part}
 use Rattle.text.specs.Words.{same, member, keywords, allInName, isName}
 
@@ -97,3 +97,75 @@ module _ (t : List ℕ) (i : ℕ) where
 
   pub run-nil : length t ≤ i → runLength (drop i t) ≡ 0
   run-nil h = rw (drop-of-length-le t h)
+
+-- ---- what a word's place tells
+
+run-fits : (s : List ℕ) → runLength s ≤ length s
+run-fits [] = omega arith
+run-fits (b ∷ l) = go (inName b) (run-fits l)
+  where
+    go : (c : Bool) → runLength l ≤ length l → cond c (suc (runLength l)) 0 ≤ suc (length l)
+    go true h = omega arith
+    go false h = omega arith
+
+-- bytes are name bytes where the run goes to their end
+all-run : (s : List ℕ) → allInName s ≡ leb (length s) (runLength s)
+all-run [] = refl
+all-run (b ∷ l) = go (inName b) (all-run l)
+  where
+    go : (c : Bool) → allInName l ≡ leb (length l) (runLength l) → (c && allInName l) ≡ leb (suc (length l)) (cond c (suc (runLength l)) 0)
+    go true h = h ∙ sym (leb·suc-suc (length l) (runLength l))
+    go false h = sym (leb·suc-zero (length l))
+
+all-taken : (s : List ℕ) → allInName (take (runLength s) s) ≡ true
+all-taken [] = refl
+all-taken (b ∷ l) = go (inName b) refl (all-taken l)
+  where
+    go : (c : Bool) → inName b ≡ c → allInName (take (runLength l) l) ≡ true → allInName (take (cond c (suc (runLength l)) 0) (b ∷ l)) ≡ true
+    go true e h = rw (e, h)
+    go false e h = refl
+
+still : (x y : Bool) → (x && true && y) ≡ (x && y)
+still true y = refl
+still false y = refl
+
+-- such a run is a name where it starts as one and is no keyword
+name-taken : (s : List ℕ) → 1 ≤ runLength s → isName (take (runLength s) s) ≡ (starts (getD s 0 0) && not (member (take (runLength s) s) keywords))
+unfolding isName
+name-taken [] h = absurd (omega arith)
+name-taken (b ∷ l) h = go (inName b) h
+  where
+    go : (c : Bool) → 1 ≤ cond c (suc (runLength l)) 0 →
+        isName (take (cond c (suc (runLength l)) 0) (b ∷ l)) ≡ (starts b && not (member (take (cond c (suc (runLength l)) 0) (b ∷ l)) keywords))
+    go true k = rw (all-taken l) (still (starts b) _)
+    go false k = absurd (omega arith)
+
+abbrev placeOf : Result (List ℕ) → ℕ
+placeOf (got w k s) = k
+placeOf (refused c p) = p
+
+module _ (t : List ℕ) (i e : ℕ) (r : run i (drop i t) ≡ got (part t i e) e (drop e t)) where
+  ends : e ≡ i + runLength (drop i t)
+  ends = sym (ap placeOf r) ∙ ap placeOf (run-is i (drop i t))
+
+  pub word-in : i < e → i < length t
+  word-in h = omega (arith, ends, run-fits (drop i t), length-drop i t)
+
+  pub word-all : i ≤ length t → allInName (drop i t) ≡ leb (length t) e
+  word-all h =
+      all-run (drop i t)
+      ∙ ⊎-elim
+      (λ (l : e < length t). rw (lt-leb _ _ l, lt-leb (length (drop i t)) (runLength (drop i t)) (omega (arith, ends, length-drop i t))))
+      (λ (g : length t ≤ e). rw (le-leb _ _ g, le-leb (length (drop i t)) (runLength (drop i t)) (omega (arith, ends, length-drop i t))))
+      (lt-or-ge e (length t))
+
+  pub word-none : e ≤ i → isName (part t i e) ≡ false
+  word-none h = rw (part-none t i e h) (name-nil [] refl)
+
+  pub word-name : i < e → isName (part t i e) ≡ (starts (getD t i 0) && not (member (part t i e) keywords))
+  word-name h =
+      let n : e - i ≡ runLength (drop i t) = omega (arith, ends) in
+      rw (n, ← first-at) (name-taken (drop i t) (omega (arith, ends)))
+    where
+      first-at : getD (drop i t) 0 0 ≡ getD t i 0
+      first-at = rw (drop-cons t i 0 (word-in h))

@@ -1,10 +1,12 @@
 -- Bytes and their classes.
+use mathlib.Core.Path.{_≡_}
 use mathlib.Core.List.{List, [], _∷_}
 use mathlib.Core.Bool.{Bool, cond, _&&_, _||_}
-use Prim.Native.Nat.{ℕ}
+use Prim.Native.Nat.{ℕ, _<_}
 use Prim.Native.String.{String, [] as empty, _∷_ as first}
 use Prim.Native.Char.{Char, code}
 use lib.Dec.{eqb, leb}
+use lib.ListN.{getD}
 
 -- quoted text as bytes
 abbrev pub bytes : String → List ℕ
@@ -58,3 +60,7 @@ numOf symbolDigit = 3
 numOf symbolSign = 4
 numOf blank = 5
 numOf other = 6
+
+-- a table that has, for each byte, the number of its class
+abbrev pub Ruled : List ℕ → Type 0
+Ruled classes = (b : ℕ) → b < 256 → getD classes b 0 ≡ numOf (classOf b)

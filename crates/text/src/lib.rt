@@ -3,7 +3,7 @@ ghost use mathlib.Core.Path.{_≡_};
 ghost use mathlib.Core.Bool.{cond};
 ghost use lib.Dec.{eqb};
 ghost use lib.ListN.{drop};
-ghost use Rattle.text.specs.Bytes.{classOf, numOf, isBlank, starts, inName, isSymbol};
+ghost use Rattle.text.specs.Bytes.{classOf, numOf, isBlank, starts, inName, isSymbol, Ruled};
 ghost use Rattle.text.specs.Words.{same as sameWord, member, keywords, allInName, isName, nameFits};
 ghost use Rattle.text.specs.Blanks.{one, two, toLine, toClose, gap, endless};
 ghost use Rattle.text.specs.Reader.{got, skip, run, mark, eitherMark, keyword, name};
@@ -282,23 +282,27 @@ const CLASSES: [u8; 256] = [
     6,
 ];
 
-fn class_of(b: u8) -> u8
+// The class of a byte. The table is lent, since each use of a constant makes it anew.
+fn class_of(classes: &[u8; 256], b: u8) -> u8
+    requires { ⌜ Ruled (now classes) ⌝ }
     ensures { λ r. ⌜ r ≡ numOf (classOf b) ⌝ }
 {
-    CLASSES[b as usize]
+    classes[b as usize]
 }
 
-pub fn is_blank(b: u8) -> bool
+fn is_blank(classes: &[u8; 256], b: u8) -> bool
+    requires { ⌜ Ruled (now classes) ⌝ }
     ensures { λ r. ⌜ r ≡ isBlank b ⌝ }
 {
-    class_of(b) == 5
+    class_of(classes, b) == 5
 }
 
 // What a name starts with.
-pub fn starts_name(b: u8) -> bool
+fn starts_name(classes: &[u8; 256], b: u8) -> bool
+    requires { ⌜ Ruled (now classes) ⌝ }
     ensures { λ r. ⌜ r ≡ starts b ⌝ }
 {
-    let k = class_of(b);
+    let k = class_of(classes, b);
     if k < 1 {
         return false;
     }
@@ -306,17 +310,18 @@ pub fn starts_name(b: u8) -> bool
 }
 
 // What a name goes on with.
-pub fn in_name(b: u8) -> bool
+fn in_name(classes: &[u8; 256], b: u8) -> bool
+    requires { ⌜ Ruled (now classes) ⌝ }
     ensures { λ r. ⌜ r ≡ inName b ⌝ }
 {
-    class_of(b) < 4
+    class_of(classes, b) < 4
 }
 
 // What a table symbol begins with.
 pub fn is_symbol(b: u8) -> bool
     ensures { λ r. ⌜ r ≡ isSymbol b ⌝ }
 {
-    let k = class_of(b);
+    let k = class_of(&CLASSES, b);
     if k < 2 {
         return false;
     }
@@ -373,15 +378,12 @@ pub fn is_name(s: &[u8]) -> bool
     if s.len() == 0 {
         return false;
     }
-    if !starts_name(s[0]) {
+    let classes = CLASSES;
+    if !starts_name(&classes, s[0]) {
         return false;
     }
-    let mut i: usize = 1;
-    while i < s.len() {
-        if !in_name(s[i]) {
-            return false;
-        }
-        i += 1;
+    if run_end(&classes, s, 1) < s.len() {
+        return false;
     }
     !is_keyword(s)
 }
@@ -449,13 +451,14 @@ fn to_close(text: &[u8], at: usize) -> Close
 }
 
 // The length of the blank or the comment that the text begins with at a place.
-fn gap_at(text: &[u8], at: usize) -> usize
+fn gap_at(classes: &[u8; 256], text: &[u8], at: usize) -> usize
+    requires { ⌜ Ruled (now classes) ⌝ }
     ensures { λ r. ⌜ r ≡ gap (drop at (now (text .entry))) ⌝ }
 {
     if text.len() <= at {
         return 0;
     }
-    if is_blank(text[at]) {
+    if is_blank(classes, text[at]) {
         return 1;
     }
     if two_at(text, at, b'/', b'/') {
@@ -476,19 +479,48 @@ fn gap_at(text: &[u8], at: usize) -> usize
     0
 }
 
-// Past blanks and comments.
-pub fn skip_from(text: &[u8], at: usize) -> usize
+// Past blanks and comments, one after the other.
+fn skip_gaps(classes: &[u8; 256], text: &[u8], at: usize) -> usize
+    requires { ⌜ Ruled (now classes) ⌝ }
     ensures { λ r. ⌜ skip at (drop at (now (text .entry))) ≡ got tt r (drop r (now (text .entry))) ⌝ }
 {
     let mut i = at;
     while i < text.len() {
-        let g = gap_at(text, i);
+        let g = gap_at(classes, text, i);
         if g == 0 {
             return i;
         }
         i += g;
     }
     i
+}
+
+// Past one space or LF: most gaps are no more than that.
+fn past_one(text: &[u8], at: usize) -> usize
+    ensures { λ r. ⌜ skip at (drop at (now (text .entry))) ≡ skip r (drop r (now (text .entry))) ⌝ }
+{
+    if one_at(text, at, b' ') {
+        return at + 1;
+    }
+    if one_at(text, at, b'\n') {
+        return at + 1;
+    }
+    at
+}
+
+// Past blanks and comments; behind the space only `/` can begin either.
+pub fn skip_from(text: &[u8], at: usize) -> usize
+    ensures { λ r. ⌜ skip at (drop at (now (text .entry))) ≡ got tt r (drop r (now (text .entry))) ⌝ }
+{
+    let i = past_one(text, at);
+    if text.len() <= i {
+        return i;
+    }
+    if (b' ' < text[i]) & (text[i] != b'/') {
+        return i;
+    }
+    let classes = CLASSES;
+    skip_gaps(&classes, text, i)
 }
 
 // The number of the refusal where what stands at a place is not expected.
@@ -558,17 +590,24 @@ pub fn part(text: &[u8], a: usize, e: usize) -> &[u8]
 }
 
 // Past the longest run of name bytes.
-pub fn word_end(text: &[u8], at: usize) -> usize
+fn run_end(classes: &[u8; 256], text: &[u8], at: usize) -> usize
+    requires { ⌜ Ruled (now classes) ⌝ }
     ensures { λ r. ⌜ run at (drop at (now (text .entry))) ≡ got (partOf (now (text .entry)) at r) r (drop r (now (text .entry))) ⌝ }
 {
     let mut i = at;
     while i < text.len() {
-        if !in_name(text[i]) {
+        if !in_name(classes, text[i]) {
             return i;
         }
         i += 1;
     }
     i
+}
+
+pub fn word_end(text: &[u8], at: usize) -> usize
+    ensures { λ r. ⌜ run at (drop at (now (text .entry))) ≡ got (partOf (now (text .entry)) at r) r (drop r (now (text .entry))) ⌝ }
+{
+    run_end(&CLASSES, text, at)
 }
 
 // The word w, behind blanks.
@@ -587,10 +626,17 @@ pub fn read_keyword(text: &[u8], at: usize, w: &[u8]) -> Step
 pub fn read_name(text: &[u8], at: usize) -> Step
     ensures { λ r. ⌜ name at (drop at (now (text .entry))) ≡ meant (now (text .entry)) (named (now (text .entry))) r ⌝ }
 {
+    let classes = CLASSES;
     let i = skip_from(text, at);
-    let e = word_end(text, i);
+    let e = run_end(&classes, text, i);
+    if e <= i {
+        return fault_at(text, i);
+    }
+    if !starts_name(&classes, text[i]) {
+        return fault_at(text, i);
+    }
     let w = part(text, i, e);
-    if !is_name(w) {
+    if is_keyword(w) {
         return fault_at(text, i);
     }
     if w.len() <= base::NAME {

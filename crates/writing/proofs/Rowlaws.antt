@@ -19,12 +19,11 @@ use Rattle.symbol.specs.declared.Level.the-variants.{Any, Zero}
 use Rattle.symbol.specs.declared.Symbol.{Symbol}
 use Rattle.symbol.specs.declared.Symbol.the-variants.{Held}
 use Rattle.symbol.specs.declared.Output.{Output}
-use Rattle.symbol.specs.Stored.{levelByte, outputByte}
-use Rattle.table.specs.Places.{inputsAt, countAt, rowsAt, stateAt, outputAt, rowSize, areaSize, rowPlace}
+use Rattle.table.specs.Places.{inputsAt, countAt, rowsAt, rowSize, areaSize, rowPlace}
 use Rattle.table.specs.Table.{Row, Table, Shaped, rowAt, symbolAt, noRow, withRow}
 use Rattle.table.specs.Area.{symbolPart, rowByte, rowsByte, areaByte, encode}
 use Rattle.table.proofs.Encoding.{encode-length, encode-at, rows-place, inputs-of, count-of}
-use Rattle.writing.specs.Written.{rowFrom, hasRoom, addedByte, rowWritten}
+use Rattle.writing.specs.Written.{rowFrom, lastByte, hasRoom, addedByte, rowWritten}
 
 -- ---- the row that an array's first symbols make
 default-same : {A : Type 0} (l : List A) (k : ℕ) (d e : A) → k < length l → getD l k d ≡ getD l k e
@@ -47,12 +46,27 @@ module _ (n : ℕ) (l : List Symbol) (state : Level) (output : Output) (fits : n
       rw (lt-ltb k (2 * length (rowFrom n l state output .symbols)) (omega (arith, from-length)))
       (ap (λ (s : Symbol). symbolPart s (k % 2)) (from-symbol (k / 2) (omega arith)))
 
-  pub from-behind : (k : ℕ) → 2 * n ≤ k
-      → rowByte (rowFrom n l state output) k ≡ cond (eqb k stateAt) (levelByte state) (cond (eqb k outputAt) (outputByte output) 0)
-  unfolding rowByte rowFrom
+  from-behind : (k : ℕ) → 2 * n ≤ k → rowByte (rowFrom n l state output) k ≡ lastByte state output k
+  unfolding rowByte rowFrom lastByte
   from-behind k h = rw (le-ltb k (2 * length (take n l)) (omega (arith, from-length)))
 
--- ---- what the loop of write_row leaves
+  -- the columns are written first, then what stands behind them
+  pub row-patched : (a c d : List ℕ) (b : ℕ) → n ≤ inputLimit → Patched (rowByte (rowFrom n l state output)) b a c (2 * n)
+      → Patched (λ m. lastByte state output (2 * n + m)) (b + 2 * n) c d (rowSize - 2 * n) → Patched (rowByte (rowFrom n l state output)) b a d rowSize
+  row-patched a c d b few v w = record {
+    long = w .long ∙ v .long;
+    inside = λ m h. ⊎-elim
+        (λ (g : m < 2 * n). w .below (b + m) (omega arith) ∙ v .inside m g)
+        (λ (g : 2 * n ≤ m).
+        let e : 2 * n + (m - 2 * n) ≡ m = omega arith in
+        let f : b + 2 * n + (m - 2 * n) ≡ b + m = omega arith in
+        (rw (e, f) at (w .inside (m - 2 * n) (omega arith))) ∙ sym (from-behind m g))
+        (lt-or-ge m (2 * n));
+    below = λ p h. w .below p (omega arith) ∙ v .below p h;
+    above = λ p h. w .above p (omega arith) ∙ v .above p (omega arith);
+  }
+
+-- ---- what the loops of write_row leave
 module _ (a l : List ℕ) (r : Row) (long : length a ≡ areaSize) (few : getD a countAt 0 < rowLimit)
     (w : Patched (rowByte r) (rowsAt + getD a countAt 0 * rowSize) a l rowSize) where
   abbrev b : ℕ

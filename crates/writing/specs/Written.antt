@@ -10,7 +10,8 @@ use Rattle.value.specs.declared.Ternary.{Ternary}
 use Rattle.symbol.specs.declared.Level.{Level}
 use Rattle.symbol.specs.declared.Symbol.{Symbol}
 use Rattle.symbol.specs.declared.Output.{Output}
-use Rattle.table.specs.Places.{inputsAt, countAt, rowSize, areaSize, rowPlace}
+use Rattle.symbol.specs.Stored.{levelByte, outputByte}
+use Rattle.table.specs.Places.{inputsAt, countAt, stateAt, outputAt, rowSize, areaSize, rowPlace}
 use Rattle.table.specs.Table.{Row, Table}
 use Rattle.table.specs.Area.{rowByte, encode}
 
@@ -28,6 +29,10 @@ headWritten a t = cond (headFits a (t .name) (t .inputs)) (encode t) a
 -- the row that the first n of some symbols make
 unfoldable pub rowFrom : ℕ → List Symbol → Level → Output → Row
 rowFrom n l state output = record { symbols = take n l; state = state; output = output }
+
+-- place k of a row, behind its columns
+unfoldable pub lastByte : Level → Output → ℕ → ℕ
+lastByte state output k = cond (eqb k stateAt) (levelByte state) (cond (eqb k outputAt) (outputByte output) 0)
 
 -- an area that has room for one row more
 unfoldable pub hasRoom : List ℕ → Bool

@@ -1,11 +1,10 @@
 ghost use mathlib.Core.Path.{_≡_};
-ghost use mathlib.Core.Bool.{_&&_};
-ghost use Prim.Native.Nat.{_≤_, _<_};
+ghost use Prim.Native.Nat.{_≤_};
 ghost use lib.ListN.{length, getD};
 ghost use Rattle.base.specs.Limits.{inputLimit, nameLimit};
 ghost use Rattle.table.specs.Places.{inputsAt};
-ghost use Rattle.table.specs.Area.{areaByte, rowByte};
-ghost use Rattle.writing.specs.Written.{headOf, headFits, headWritten, rowFrom, hasRoom, rowWritten};
+ghost use Rattle.table.specs.Area.{areaByte};
+ghost use Rattle.writing.specs.Written.{headOf, headFits, headWritten, rowFrom, lastByte, hasRoom, rowWritten};
 use symbol::Level;
 use symbol::Output;
 use symbol::Symbol;
@@ -47,27 +46,20 @@ pub fn write_head(a: &mut [u8], name: &[u8], sequential: bool, inputs: usize, st
         return;
     }
     let mut p: usize = 0;
-    while p < table::AREA {
+    while p < table::COUNT_AT {
         a[p] = head_byte(name, sequential, inputs, start, p);
+        p += 1;
+    }
+    while p < table::AREA {
+        a[p] = 0;
         p += 1;
     }
 }
 
-fn added_row_byte(
-    symbols: [Symbol; base::INPUTS],
-    n: usize,
-    state: Level,
-    output: Output,
-    k: usize,
-) -> u8
-    requires { ⌜ n ≤ inputLimit ⌝ }
-    ensures { λ r. ⌜ r ≡ rowByte (rowFrom n symbols state output) k ⌝ }
+// Place k of a row, behind its columns.
+fn last_byte(state: Level, output: Output, k: usize) -> u8
+    ensures { λ r. ⌜ r ≡ lastByte state output k ⌝ }
 {
-    if k < 2 * n {
-        let m = k / 2;
-        let s = symbols[m];
-        return table::symbol_part(s, k % 2);
-    }
     if k == table::STATE_AT {
         return symbol::level_byte(state);
     }
@@ -95,8 +87,14 @@ pub fn write_row(a: &mut [u8], symbols: [Symbol; base::INPUTS], state: Level, ou
     let n = base::wide(a[table::INPUTS_AT]);
     let at = table::ROWS_AT + base::wide(a[table::COUNT_AT]) * table::ROW_SIZE;
     let mut k: usize = 0;
+    while k < 2 * n {
+        let m = k / 2;
+        let s = symbols[m];
+        a[at + k] = table::symbol_part(s, k % 2);
+        k += 1;
+    }
     while k < table::ROW_SIZE {
-        a[at + k] = added_row_byte(symbols, n, state, output, k);
+        a[at + k] = last_byte(state, output, k);
         k += 1;
     }
     a[table::COUNT_AT] += 1;

@@ -1,15 +1,15 @@
-use Prim.Native.Nat.{ℕ, _≤_, _-_}
-use mathlib.Core.Path.{_≡_, sym}
-use mathlib.Core.Bool.{true}
+use Prim.Native.Nat.{ℕ, _≤_, _<_, _-_}
+use mathlib.Core.Path.{_≡_, sym, ap, _∙_}
+use mathlib.Core.Bool.{true, false}
 use native.Mathlib.Omega.{arith}
 use borrow.Author.Needs.{needs}
 use Rattle.base.specs.Search.{every}
 use Rattle.base.proofs.Search.{every-none, every-more, every-fails}
-use borrow.Author.Tests.{not-true, not-false}
+use Rattle.symbol.specs.Match.{meet}
 use Rattle.table.specs.Area.{decode}
 use Rattle.table.specs.Table.{rowAt, symbolAt}
-use Rattle.symbol.specs.Match.{meet}
 use Rattle.formed.specs.Tests.{columnsMeet}
+use Rattle.formed.proofs.Sets.{sets-apart, sets-share}
 use Rattle.formed.proofs.columns_meet.Statement.{statement}
 use Rattle.formed.proofs.columns_meet.Tie as tie
 
@@ -26,154 +26,12 @@ columns-meet-spec =
     (tie.spec
     Inv-loop
     μ-loop
-    (λ
-    c
-    κs.
-    search
-    needs)
-    (λ
-    c. (
-      search
-          needs,
-      every-none
-          _,
-    ))
-    (λ
-    c
-    κs.
-    search
-    needs)
-    (λ
-    c
-    κs.
-    search
-    needs)
-    (λ
-    c
-    κs.
-    search
-    needs)
-    (λ
-    c.
-    sym
-    (every-fails
-    _
-    _
-    (c
-    .before
-    .before
-    .before
-    .before
-    .before
-    .loop
-    .k)
-    (omega
-    arith)
-    (rw (
-      ←
-          c
-          .before
-          .before
-          .before
-          .symbol-in
-          .ensures,
-      ←
-          c
-          .before
-          .before
-          .symbol-in2
-          .ensures,
-      ←
-          c
-          .before
-          .symbols-meet
-          .ensures,
-    )
-    (not-true
-    _
-    (c
-    .if1
-    .taken)))))
-    (λ
-    c.
-    omega
-    arith)
-    (λ
-    c.
-    omega
-    arith)
-    (λ
-    c. (
-      omega
-          arith,
-      every-more
-          _
-          _
-          (c
-          .before
-          .before
-          .before
-          .before
-          .before
-          .loop
-          .inv
-          .1)
-          (rw (
-            ←
-                c
-                .before
-                .before
-                .before
-                .symbol-in
-                .ensures,
-            ←
-                c
-                .before
-                .before
-                .symbol-in2
-                .ensures,
-            ←
-                c
-                .before
-                .symbols-meet
-                .ensures,
-          )
-          (not-false
-          _
-          (c
-          .if1
-          .left))),
-    ))
-    (λ
-    c.
-    let
-    e
-    :
-    c
-    .before
-    .loop
-    .k
-    ≡
-    decode
-    (c
-    .before
-    .before
-    .before
-    .before
-    .args
-    .a
-    .now)
-    .inputs
-    =
-    omega
-    arith
-    in
-    sym
-    (rw
-    e
-    at
-    (c
-    .before
-    .loop
-    .inv
-    .1))))
+    (λ c κs. search needs)
+    (λ c. (search needs, every-none _))
+    (λ c κs. search needs)
+    (λ c κs. search needs)
+    (λ c. sym (every-fails _ _ (c .before .before .before .before .loop .k) (omega arith) (sets-apart _ _ _ _ (c .before .before .offers-in .ensures) (c .before .offers-in2 .ensures) (c .if1 .taken))))
+    (λ c. omega arith)
+    (λ c. omega arith)
+    (λ c. (omega arith, every-more _ _ (c .before .before .before .before .loop .inv .1) (sets-share _ _ _ _ (c .before .before .offers-in .ensures) (c .before .offers-in2 .ensures) (c .if1 .left))))
+    (λ c. let e : c .before .loop .k ≡ decode (c .before .before .before .before .args .a .now) .inputs = omega arith in sym (rw e at (c .before .loop .inv .1))))

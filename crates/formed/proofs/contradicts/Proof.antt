@@ -1,21 +1,26 @@
-use borrow.Author.Tests.{not-true, not-false}
-use Rattle.formed.specs.Tests.{contradict}
+use mathlib.Core.Path.{_≡_, sym, _∙_}
+use mathlib.Core.Bool.{true, false}
 use borrow.Author.Needs.{needs}
+use Rattle.table.specs.Area.{decode}
+use Rattle.table.specs.Table.{rowAt}
+use Rattle.formed.specs.Tests.{sameOutput}
+use Rattle.formed.proofs.Sets.{same-outputs, states-apart, states-meet}
 use Rattle.formed.proofs.contradicts.Statement.{statement}
 use Rattle.formed.proofs.contradicts.Tie as tie
 
+returns : tie.Need-returns
+returns c = sym (same-outputs _ _ _ (sym (rw (c .before .before .before .output-in .ensures, c .before .before .output-in2 .ensures) at (c .before .same-output .ensures)) ∙ c .if1 .taken))
+
+returns-2 : tie.Need-returns-2
+returns-2 c =
+    sym (states-apart _ _ _ (sym (rw (c .before .before .before .before .before .before .output-in .ensures, c .before .before .before .before .before .output-in2 .ensures) at (c .before .before .before .before .same-output .ensures)) ∙ c .before .before .before .if1 .left)
+    _ _ (c .before .before .state-offers .ensures) (c .before .state-offers2 .ensures) (c .if2 .taken))
+
+returns-3 : tie.Need-returns-3
+returns-3 c =
+    c .columns-meet .ensures
+    ∙ sym (states-meet _ _ _ (sym (rw (c .before .before .before .before .before .before .before .output-in .ensures, c .before .before .before .before .before .before .output-in2 .ensures) at (c .before .before .before .before .before .same-output .ensures)) ∙ c .before .before .before .before .if1 .left)
+    _ _ (c .before .before .before .state-offers .ensures) (c .before .before .state-offers2 .ensures) (c .before .if2 .left))
+
 pub contradicts-spec : {M : Type 1} → statement M
-unfolding contradict
-contradicts-spec =
-    tie.close
-    (tie.spec
-    (λ c κs. search needs)
-    (λ c κs. search needs)
-    (λ c κs. search needs)
-    (λ c. rw (← c .before .before .before .output-in .ensures, ← c .before .before .output-in2 .ensures, ← c .before .same-output .ensures, c .if1 .taken))
-    (λ c κs. search needs)
-    (λ c κs. search needs)
-    (λ c κs. search needs)
-    (λ c. rw (← c .before .before .before .before .before .before .before .output-in .ensures, ← c .before .before .before .before .before .before .output-in2 .ensures, ← c .before .before .before .before .before .same-output .ensures, c .before .before .before .before .if1 .left, ← c .before .before .before .state-in .ensures, ← c .before .before .state-in2 .ensures, ← c .before .levels-meet .ensures, not-true (c .before .levels-meet .result) (c .if2 .taken)))
-    (λ c κs. search needs)
-    (λ c. rw (← c .before .before .before .before .before .before .before .before .output-in .ensures, ← c .before .before .before .before .before .before .before .output-in2 .ensures, ← c .before .before .before .before .before .before .same-output .ensures, c .before .before .before .before .before .if1 .left, ← c .before .before .before .before .state-in .ensures, ← c .before .before .before .state-in2 .ensures, ← c .before .before .levels-meet .ensures, not-false (c .before .before .levels-meet .result) (c .before .if2 .left), ← c .columns-meet .ensures)))
+contradicts-spec = tie.close (tie.spec (λ c κs. search needs) (λ c κs. search needs) (λ c κs. search needs) returns (λ c κs. search needs) (λ c κs. search needs) returns-2 (λ c κs. search needs) returns-3)

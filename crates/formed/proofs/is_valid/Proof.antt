@@ -1,6 +1,8 @@
+use mathlib.Core.Path.{sym, _∙_}
+use borrow.Author.Needs.{needs}
 use borrow.Author.Tests.{not-true, not-false}
 use Rattle.formed.specs.Tests.{valid}
-use borrow.Author.Needs.{needs}
+use Rattle.formed.proofs.Exact.{head-inputs, head-rows}
 use Rattle.formed.proofs.is_valid.Statement.{statement}
 use Rattle.formed.proofs.is_valid.Tie as tie
 
@@ -11,7 +13,7 @@ is-valid-spec =
     (tie.spec
     (λ c κs. search needs)
     (λ c. rw (← c .before .head-valid .ensures, not-true (c .before .head-valid .result) (c .if1 .taken)))
-    (λ c κs. search needs)
-    (λ c. rw (← c .before .before .before .head-valid .ensures, not-false (c .before .before .before .head-valid .result) (c .before .before .if1 .left), ← c .before .rows-valid .ensures, not-true (c .before .rows-valid .result) (c .if2 .taken)))
-    (λ c κs. search needs)
-    (λ c. rw (← c .before .before .before .before .head-valid .ensures, not-false (c .before .before .before .before .head-valid .result) (c .before .before .before .if1 .left), ← c .before .before .rows-valid .ensures, not-false (c .before .before .rows-valid .result) (c .before .if2 .left), ← c .rows-agree .ensures)))
+    (λ c κs.
+    let h = sym (c .before .head-valid .ensures) ∙ not-false (c .before .head-valid .result) (c .if1 .left) in
+    (head-inputs _ h, head-rows _ h))
+    (λ c. rw (← c .before .before .head-valid .ensures, not-false (c .before .before .head-valid .result) (c .before .if1 .left), ← c .rows-fit .ensures)))

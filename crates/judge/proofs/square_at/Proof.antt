@@ -1,16 +1,22 @@
 use Prim.Native.Nat.{ℕ, _-_}
+use mathlib.Core.List.{[]}
 use native.Mathlib.Omega.{arith}
+use borrow.Author.Needs.{needs}
 use Rattle.base.specs.Listed.{listed}
 use Rattle.base.proofs.Listed.{Filled, filled-none, filled-more, filled-all}
+use Rattle.table.specs.Table.{Table}
+use Rattle.pair.specs.Search.{Given}
 use Rattle.judge.specs.Search.{yesIn, squareIn}
+use Rattle.judge.proofs.Findings.{vectors-low}
+use Rattle.judge.proofs.Pairwise.{filled-at}
 use Rattle.judge.proofs.square_at.Statement.{statement}
 use Rattle.judge.proofs.square_at.Tie as tie
 
 abbrev Inv-loop : tie.InvT-loop
-Inv-loop f n s₀ i₀ s i = Filled (λ (k : ℕ). listed (yesIn f n k) 9) 9 s i
+Inv-loop s all outs n m c q₀ i₀ q i = (t : Table) → Given t s all outs n m → Filled (λ (k : ℕ). listed (yesIn t k) 9) 9 q i
 
 abbrev μ-loop : tie.MeasureT-loop
-μ-loop f n s₀ i₀ s i = 9 - i
+μ-loop s all outs n m c q₀ i₀ q i = 9 - i
 
 pub square-at-spec : {M : Type 1} → statement M
 unfolding squareIn
@@ -19,11 +25,15 @@ square-at-spec =
     (tie.spec
     Inv-loop
     μ-loop
-    (λ c. filled-none _ 9 _)
-    (λ c κs. (omega arith, omega arith))
+    (λ c κs. omega arith)
+    (λ c. omega (arith, vectors-low _ _ (c .before .pre .0) (c .power .ensures)))
+    (λ c. λ t G. filled-none _ 9 _)
+    (λ c κs. let s = c .before .before .before in (omega arith, omega arith, rw (s .power .ensures), omega arith, s .before .pre .2))
+    (λ c. omega arith)
+    (λ c. search needs)
     (λ c. omega arith)
     (λ c. omega arith)
-    (λ c. omega arith)
-    (λ c. omega arith)
-    (λ c. filled-more _ 9 _ _ _ (c .before .loop-test .taken) (c .square-row .ensures) (c .before .before .loop .inv))
-    (λ c. filled-all _ 9 _ _ (c .loop-test .left) (c .before .loop .inv)))
+    (λ c. λ t G.
+    let l = c .before .before .before in
+    filled-more _ 9 _ _ _ (c .before .before .loop-test .taken) (c .square-row .ensures t G (filled-at _ 9 _ _ [] (l .loop .inv t G))) (l .loop .inv t G))
+    (λ c. λ t G. filled-all _ 9 _ _ (c .loop-test .left) (c .before .loop .inv t G)))

@@ -1,15 +1,22 @@
-use Prim.Native.Nat.{_-_}
+use Prim.Native.Nat.{ℕ, _<_, _-_}
+use mathlib.Core.Path.{_≡_}
+use mathlib.Core.List.{[]}
 use native.Mathlib.Omega.{arith}
+use lib.ListN.{getD}
+use Rattle.base.specs.Listed.{listed}
 use Rattle.base.proofs.Listed.{Filled, filled-none, filled-more, filled-all}
+use Rattle.table.specs.Table.{Table}
+use Rattle.pair.specs.Search.{Given}
 use Rattle.judge.specs.Search.{yesIn}
 use Rattle.judge.proofs.square_row.Statement.{statement}
 use Rattle.judge.proofs.square_row.Tie as tie
 
 abbrev Inv-loop : tie.InvT-loop
-Inv-loop f n i s₀ j₀ s j = Filled (yesIn f n i) 9 s j
+Inv-loop s all outs n m c done i row₀ j₀ row j =
+    (t : Table) → Given t s all outs n m → ((k : ℕ) → k < i → getD done k [] ≡ listed (yesIn t k) 9) → Filled (yesIn t i) 9 row j
 
 abbrev μ-loop : tie.MeasureT-loop
-μ-loop f n i s₀ j₀ s j = 9 - j
+μ-loop s all outs n m c done i row₀ j₀ row j = 9 - j
 
 pub square-row-spec : {M : Type 1} → statement M
 square-row-spec =
@@ -17,10 +24,10 @@ square-row-spec =
     (tie.spec
     Inv-loop
     μ-loop
-    (λ c. filled-none _ 9 _)
-    (λ c κs. (omega arith, omega arith, omega arith))
+    (λ c. λ t G w. filled-none _ 9 _)
+    (λ c κs. let s = c .before .before in (omega arith, omega arith, s .pre .2, omega arith, omega arith, s .pre .4))
     (λ c. omega arith)
     (λ c. omega arith)
     (λ c. omega arith)
-    (λ c. filled-more _ 9 _ _ _ (c .before .loop-test .taken) (c .yes-at .ensures) (c .before .before .loop .inv))
-    (λ c. filled-all _ 9 _ _ (c .loop-test .left) (c .before .loop .inv)))
+    (λ c. λ t G w. filled-more _ 9 _ _ _ (c .before .loop-test .taken) (c .yes-at .ensures t G w) (c .before .before .loop .inv t G w))
+    (λ c. λ t G w. filled-all _ 9 _ _ (c .loop-test .left) (c .before .loop .inv t G w)))

@@ -1,30 +1,35 @@
-use Prim.Native.Nat.{_-_}
+use mathlib.Core.Path.{_∙_}
 use native.Mathlib.Omega.{arith}
 use borrow.Author.Needs.{needs}
-use Rattle.base.proofs.Listed.{Filled, filled-none, filled-more, filled-all}
 use Rattle.table.specs.Area.{decode}
-use Rattle.memo.specs.Rows.{offeredRows, cellRow}
+use Rattle.memo.proofs.Offers.{From, from-none, from-room, from-more, from-all}
 use Rattle.memo.proofs.cell_row.Statement.{statement}
 use Rattle.memo.proofs.cell_row.Tie as tie
 
 abbrev Inv-loop : tie.InvT-loop
-Inv-loop a k s₀ c₀ s c = Filled (offeredRows (decode a) k) 12 s c
+Inv-loop a k s₀ i₀ s i = From (decode a) k i s
 
 abbrev μ-loop : tie.MeasureT-loop
-μ-loop a k s₀ c₀ s c = 12 - c
+μ-loop a k s₀ i₀ s i = i
 
 pub cell-row-spec : {M : Type 1} → statement M
-unfolding cellRow
 cell-row-spec =
     tie.close
     (tie.spec
     Inv-loop
     μ-loop
-    (λ c. filled-none _ 12 _)
     (λ c κs. search needs)
+    (λ c. from-none _ _ _ (c .rows .ensures))
     (λ c. omega arith)
+    (λ c κs. search needs)
+    (λ c κs. search needs)
+    (λ c κs.
+    let l = c .before .before .before .before in
+    let p = l .before .before .before .pre in
+    (l .loop .inv .long, from-room _ _ _ _ (l .loop .inv) (c .before .before .before .loop-test .taken) (p .rows)))
     (λ c. omega arith)
-    (λ c. omega arith)
-    (λ c. omega arith)
-    (λ c. filled-more _ 12 _ _ _ (c .before .loop-test .taken) (c .offered-rows .ensures) (c .before .before .loop .inv))
-    (λ c. filled-all _ 12 _ _ (c .loop-test .left) (c .before .loop .inv)))
+    (λ c.
+    let b = c .before .before in
+    let l = b .before .before .before in
+    from-more _ _ _ _ _ _ (b .before .before .loop-test .taken) (l .loop .inv) (c .before .offer-bits .ensures ∙ rw (b .column-of .ensures)) (c .add-row .ensures))
+    (λ c. from-all _ _ _ _ (c .loop-test .left) (c .before .loop .inv)))

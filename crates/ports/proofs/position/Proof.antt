@@ -1,5 +1,5 @@
 use borrow.Author.Needs.{needs}
-use Rattle.ports.specs.Heads.{portsOf, find}
+use Rattle.ports.specs.Ports.{portsOf, find}
 use Rattle.ports.proofs.Keeping.{ports-length, ports-at}
 use Rattle.ports.proofs.Flags.{find-cons, find-nil}
 use Rattle.text.proofs.Blanklaws.{adds, adds-zero, adds-more}

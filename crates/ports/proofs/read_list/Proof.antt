@@ -1,4 +1,4 @@
-use Rattle.ports.specs.Heads.{portAt, portsOf, down}
+use Rattle.ports.specs.Ports.{portAt, portsOf, down}
 use Rattle.grammar.specs.Header.{inputList, listRoom}
 use Rattle.text.specs.Reader.{_>>=_, check, if}
 use Rattle.text.specs.Places.{part}

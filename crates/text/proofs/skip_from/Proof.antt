@@ -1,30 +1,27 @@
-use mathlib.Core.Path.{_≡_, refl, sym, _∙_}
-use Prim.Native.Nat.{_-_}
-use lib.ListN.{length, drop, length-drop}
+use mathlib.Core.Path.{sym, _∙_}
+use lib.Dec.{eqb, ltb}
+use lib.ListN.{getD}
+use borrow.Author.Tests.{ltb-true, eqb-false, not-true}
+use Rattle.base.proofs.Bools.{both}
 use denote.Ref.{now}
-use Rattle.text.specs.Reader.{skip}
-use Rattle.text.proofs.Blanklaws.{gap-le, skip-stop, skip-on, skip-nil}
-use native.Mathlib.Omega.{arith}
 use borrow.Author.Needs.{needs}
+use Rattle.text.proofs.Classes.{classes-ruled}
+use Rattle.text.proofs.Blanklaws.{skip-nil, plain-stop}
 use Rattle.text.proofs.skip_from.Statement.{statement}
 use Rattle.text.proofs.skip_from.Tie as tie
-
-abbrev Inv-loop : tie.InvT-loop
-Inv-loop text at i₀ i = skip at (drop at text) ≡ skip i (drop i text)
-
-abbrev μ-loop : tie.MeasureT-loop
-μ-loop text at i₀ i = length text - i
 
 pub skip-from-spec : {M : Type 1} → statement M
 skip-from-spec =
     tie.close
     (tie.spec
-    Inv-loop
-    μ-loop
-    (λ c. refl)
     (λ c κs. search needs)
-    (λ c. let l = c .before .before .before .loop in l .inv ∙ skip-stop (now (c .before .before .before .before .before .args .text)) (l .i) (c .before .before .loop-test .taken) (sym (c .before .gap-at .ensures) ∙ c .if1 .taken))
-    (λ c. let l = c .before .before .before .loop in omega (arith, c .before .gap-at .ensures, gap-le (drop (l .i) (now (c .before .before .before .before .before .args .text))), length-drop (l .i) (now (c .before .before .before .before .before .args .text))))
-    (λ c. let l = c .before .before .before .loop in omega (arith, c .before .gap-at .ensures, gap-le (drop (l .i) (now (c .before .before .before .before .before .args .text))), length-drop (l .i) (now (c .before .before .before .before .before .args .text))))
-    (λ c. let l = c .before .before .before .loop in l .inv ∙ skip-on (now (c .before .before .before .before .before .args .text)) (l .i) (c .before .before .loop-test .taken) (c .before .gap-at .result) (sym (c .before .gap-at .ensures)) (c .if1 .left))
-    (λ c. let l = c .before .loop in l .inv ∙ skip-nil (now (c .before .before .before .args .text)) (l .i) (c .loop-test .left)))
+    (λ c. c .before .past-one .ensures ∙ skip-nil (now (c .before .before .before .args .text)) (c .before .past-one .result) (c .if1 .taken))
+    (λ c. search needs)
+    (λ c. search needs)
+    (λ c.
+    let t = now (c .before .before .before .before .before .before .args .text) in
+    let i = c .before .before .before .before .past-one .result in
+    let plain = both (ltb 32 (getD t i 0)) _ (c .if2 .taken) in
+    c .before .before .before .before .past-one .ensures ∙ plain-stop t i (c .before .before .before .if1 .left) (ltb-true 32 _ (plain .0)) (eqb-false _ 47 (not-true (eqb (getD t i 0) 47) (plain .1))))
+    (λ c κs. classes-ruled)
+    (λ c. c .before .before .before .before .before .before .past-one .ensures ∙ c .skip-gaps .ensures))

@@ -1,0 +1,4 @@
+pub mod Turns
+pub mod Standing
+pub mod Growing
+pub mod Cuts

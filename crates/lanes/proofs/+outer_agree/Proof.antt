@@ -1,0 +1,63 @@
+use Prim.Native.Nat.{ℕ, _<_}
+use mathlib.Core.Path.{sym, _∙_}
+use native.Mathlib.Omega.{arith}
+use borrow.Author.Needs.{needs}
+use borrow.Author.Tests.{not-true, not-false}
+use borrow.Fn.Kinds.{In}
+use borrow.Fn.PlainCycle.{Measures, is, falls, and}
+use Rattle.base.proofs.Bools.{clash}
+use Rattle.memo.specs.Rows.{cellAt}
+use Rattle.lanes.proofs.Outer.{outer-plain, outer-none, outer-three, outer-same}
+use Rattle.lanes.proofs.outer_agree.Reads as outer-agree
+use Rattle.lanes.proofs.outer_agree.Kinds as outer-agree-kinds
+use Rattle.lanes.proofs.+outer_agree.Lts-outer_agree as outer-agree-lts
+use Rattle.planes.proofs.lanes_agree.Reads as lanes-agree-reads
+use Rattle.plain.proofs.only_plain.Reads as only-plain-reads
+use Rattle.lanes.proofs.top_of.Reads as top-of-reads
+use Rattle.lanes.proofs.+outer_agree.{statement}
+use Rattle.lanes.proofs.+outer_agree.Tie.{close}
+
+-- the number of columns that are left
+abbrev μ-outer-agree : Measures 3 outer-agree-kinds.ps ℕ
+μ-outer-agree κs a = a .1 .1 .1 .1 .1 .1 .1 .1 .0
+
+abbrev outer-agree-at : ℕ → In 3 outer-agree-kinds.ps
+outer-agree-at t = and 3 outer-agree-kinds.ps (is 3 outer-agree-kinds.ps μ-outer-agree t) outer-agree.Pre
+
+abbrev outer-agree-below : ℕ → In 3 outer-agree-kinds.ps
+outer-agree-below t = and 3 outer-agree-kinds.ps (falls 3 outer-agree-kinds.ps _<_ μ-outer-agree t) outer-agree.Pre
+
+abbrev known : ℕ → outer-agree-lts.Claims
+known t = (only-plain-reads.Asked, only-plain-reads.Learnt, top-of-reads.Asked, top-of-reads.Learnt, lanes-agree-reads.Asked, lanes-agree-reads.Learnt, outer-agree-below t, outer-agree.Post)
+
+pub +outer-agree-spec : {M : Type 1} → statement M
+unfolding cellAt
++outer-agree-spec = close μ-outer-agree λ t. outer-agree-lts.spec (known t)
+    (outer-agree-at t)
+    outer-agree.Post
+    (λ c κs. search needs)
+    (λ c e. outer-plain _ _ _ _ _ _ _ _ _ _ (c .before .before .pre .1 .5) (c .before .only-plain .ensures (c .if1 .taken)))
+    (λ c κs. search needs)
+    (λ c κs. let p = c .before .before .before .before .pre .1 in (p .0, p .1, p .2, p .4))
+    (λ c e. outer-none _ _ _ _ _ _ _ _ _ (c .before .before .top-of .ensures .0) (c .before .if2 .taken) (c .lanes-agree .ensures e))
+    (λ c. omega arith)
+    (λ c. search needs)
+    (λ c. search needs)
+    (λ c. search needs)
+    (λ c. search needs)
+    (λ c. search needs)
+    (λ c. search needs)
+    (λ c. search needs)
+    (λ c. search needs)
+    (λ c. search needs)
+    (λ c κs. let p = c .before .before .before .before .before .before .before .pre in (omega (arith, p .0), (p .1 .0, p .1 .1, p .1 .2, omega (arith, p .1), p .1 .4, p .1 .5)))
+    (λ c e. clash (sym e))
+    (λ c e. outer-three _ _ _ _ _ _ _ _ _ (c .before .before .before .before .before .before .before .before .top-of .ensures .0) (c .before .before .before .before .before .before .before .if2 .left) (c .before .before .before .outer-agree .ensures (not-false _ (c .before .before .if3 .left))) (outer-same _ _ _ _ _ _ _ _ _ (c .before .if4 .taken) (c .before .before .before .outer-agree .ensures (not-false _ (c .before .before .if3 .left)))) (outer-same _ _ _ _ _ _ _ _ _ (c .if5 .taken) (c .before .before .before .outer-agree .ensures (not-false _ (c .before .before .if3 .left)))))
+    (λ c κs. let p = c .before .before .before .before .before .before .before .before .before .before .before .pre in (omega (arith, p .0), (p .1 .0, p .1 .1, p .1 .2, omega (arith, p .1), p .1 .4, p .1 .5)))
+    (λ c e. outer-three _ _ _ _ _ _ _ _ _ (c .before .before .before .before .before .before .before .before .before .top-of .ensures .0) (c .before .before .before .before .before .before .before .before .if2 .left) (c .before .before .before .before .outer-agree .ensures (not-false _ (c .before .before .before .if3 .left))) (outer-same _ _ _ _ _ _ _ _ _ (c .before .before .if4 .taken) (c .before .before .before .before .outer-agree .ensures (not-false _ (c .before .before .before .if3 .left)))) (c .outer-agree2 .ensures e))
+    (λ c κs. let p = c .before .before .before .before .before .before .before .before .before .before .pre in (omega (arith, p .0), (p .1 .0, p .1 .1, p .1 .2, omega (arith, p .1), p .1 .4, p .1 .5)))
+    (λ c e. clash (sym e))
+    (λ c e. outer-three _ _ _ _ _ _ _ _ _ (c .before .before .before .before .before .before .before .before .before .before .top-of .ensures .0) (c .before .before .before .before .before .before .before .before .before .if2 .left) (c .before .before .before .before .before .outer-agree .ensures (not-false _ (c .before .before .before .before .if3 .left))) (c .before .before .outer-agree3 .ensures (not-false _ (c .before .if6 .left))) (outer-same _ _ _ _ _ _ _ _ _ (c .if7 .taken) (c .before .before .before .before .before .outer-agree .ensures (not-false _ (c .before .before .before .before .if3 .left)))))
+    (λ c e. outer-three _ _ _ _ _ _ _ _ _ (c .before .before .before .before .before .before .before .before .before .before .before .top-of .ensures .0) (c .before .before .before .before .before .before .before .before .before .before .if2 .left) (c .before .before .before .before .before .before .outer-agree .ensures (not-false _ (c .before .before .before .before .before .if3 .left))) (c .before .before .before .outer-agree3 .ensures (not-false _ (c .before .before .if6 .left))) (outer-same _ _ _ _ _ _ _ _ _ (c .if8 .taken) (c .before .before .before .outer-agree3 .ensures (not-false _ (c .before .before .if6 .left)))))
+    (λ c κs. let p = c .before .before .before .before .before .before .before .before .before .before .before .before .before .before .pre in (omega (arith, p .0), (p .1 .0, p .1 .1, p .1 .2, omega (arith, p .1), p .1 .4, p .1 .5)))
+    (λ c e. outer-three _ _ _ _ _ _ _ _ _ (c .before .before .before .before .before .before .before .before .before .before .before .before .top-of .ensures .0) (c .before .before .before .before .before .before .before .before .before .before .before .if2 .left) (c .before .before .before .before .before .before .before .outer-agree .ensures (not-false _ (c .before .before .before .before .before .before .if3 .left))) (c .before .before .before .before .outer-agree3 .ensures (not-false _ (c .before .before .before .if6 .left))) (c .outer-agree4 .ensures e))

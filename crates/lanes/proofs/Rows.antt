@@ -1,0 +1,76 @@
+-- The lanes of a row. Assumes nothing.
+use Prim.Native.Nat.{ℕ, zero, suc, _+_, _-_, _*_, _/_, _%_, _<_, _≤_}
+use mathlib.Core.Path.{_≡_, refl, sym, ap, _∙_}
+use mathlib.Core.Bool.{Bool, true, false, cond, _&&_, _||_, not, and-false}
+use mathlib.Core.List.{List}
+use native.Mathlib.Omega.{arith}
+use lib.Bits.{bitAnd, bitOr}
+use lib.Dec.{eqb}
+use Rattle.base.specs.Search.{every}
+use Rattle.base.proofs.Bools.{clash}
+use Rattle.base.proofs.Search.{every-at}
+use Rattle.memo.specs.Rows.{cellAt}
+use Rattle.planes.specs.Words.{bit}
+use Rattle.lanes.specs.Columns.{laneAt, lanesIn, LaneRow}
+use Rattle.planes.proofs.Bits.{bit-and, bit-or, bit-zero}
+use Rattle.planes.proofs.Planes.{all-lanes}
+use Rattle.planes.proofs.Composed.{picks}
+
+word-bit : (b : Bool) (p l : ℕ) → bit (cond b p 0) l ≡ (bit p l && b)
+word-bit true p l = go (bit p l)
+  where
+    go : (x : Bool) → x ≡ (x && true)
+    go true = refl
+    go false = refl
+word-bit false p l = bit-zero l ∙ sym (and-false (bit p l))
+
+-- the lanes of one column, where its value in lane l is d
+in-lanes : (s : List (List ℕ)) (t r p q w d l : ℕ) → l < 27 → d < 3 → bit p l ≡ eqb d 0 → bit q l ≡ eqb d 1 → bit w l ≡ eqb d 2 →
+    bit (lanesIn s t r p q w) l ≡ laneAt s t d r
+unfolding lanesIn laneAt
+in-lanes s t r p q w d l lt ld ep eq ew = go (eqb t 0)
+  where
+    a : ℕ → Bool
+    a z = bit (cellAt s (t - 1) z) r
+
+    go : (e : Bool) → bit (cond e 134217727 (bitOr (cond (a 0) p 0) (bitOr (cond (a 1) q 0) (cond (a 2) w 0)))) l ≡ cond e true (a d)
+    go true = all-lanes l lt
+    go false =
+        bit-or (cond (a 0) p 0) (bitOr (cond (a 1) q 0) (cond (a 2) w 0)) l
+        ∙ rw (bit-or (cond (a 1) q 0) (cond (a 2) w 0) l, word-bit (a 0) p l, word-bit (a 1) q l, word-bit (a 2) w l, ep, eq, ew) (picks d a ld)
+
+-- the words of the lanes that have a digit
+same : Bool → Bool → Bool
+same a b = cond a b (not b)
+
+same-is : (a b : Bool) → same a b ≡ true → a ≡ b
+unfolding same
+same-is true true e = refl
+same-is true false e = clash (sym e)
+same-is false true e = clash (sym e)
+same-is false false e = refl
+
+pattern : (k d : ℕ) (f : ℕ → ℕ) → every 27 (λ (l : ℕ). same (bit k l) (eqb (f l) d)) ≡ true → (l : ℕ) → l < 27 → bit k l ≡ eqb (f l) d
+pattern k d f e l h = same-is (bit k l) (eqb (f l) d) (every-at (λ (l : ℕ). same (bit k l) (eqb (f l) d)) 27 l e h)
+
+pub lane-row-by : (s : List (List ℕ)) (t u v r a b c : ℕ) → a ≡ lanesIn s t r 19173961 38347922 76695844 → b ≡ lanesIn s u r 1838599 14708792 117670336 → c ≡ lanesIn s v r 511 261632 133955584 →
+    LaneRow s t u v r (bitAnd a (bitAnd b c))
+unfolding every same bit
+lane-row-by s t u v r a b c ea eb ec = record {
+  at = λ l lt. bit-and a (bitAnd b c) l ∙ rw (bit-and b c l, first l lt, second l lt, third l lt);
+}
+  where
+    first : (l : ℕ) → l < 27 → bit a l ≡ laneAt s t (l % 3) r
+    first l lt =
+        ap (λ (x : ℕ). bit x l) ea
+        ∙ in-lanes s t r _ _ _ (l % 3) l lt (omega arith) (pattern 19173961 0 (λ (l : ℕ). l % 3) refl l lt) (pattern 38347922 1 (λ (l : ℕ). l % 3) refl l lt) (pattern 76695844 2 (λ (l : ℕ). l % 3) refl l lt)
+
+    second : (l : ℕ) → l < 27 → bit b l ≡ laneAt s u (l / 3 % 3) r
+    second l lt =
+        ap (λ (x : ℕ). bit x l) eb
+        ∙ in-lanes s u r _ _ _ (l / 3 % 3) l lt (omega arith) (pattern 1838599 0 (λ (l : ℕ). l / 3 % 3) refl l lt) (pattern 14708792 1 (λ (l : ℕ). l / 3 % 3) refl l lt) (pattern 117670336 2 (λ (l : ℕ). l / 3 % 3) refl l lt)
+
+    third : (l : ℕ) → l < 27 → bit c l ≡ laneAt s v (l / 9) r
+    third l lt =
+        ap (λ (x : ℕ). bit x l) ec
+        ∙ in-lanes s v r _ _ _ (l / 9) l lt (omega arith) (pattern 511 0 (λ (l : ℕ). l / 9) refl l lt) (pattern 261632 1 (λ (l : ℕ). l / 9) refl l lt) (pattern 133955584 2 (λ (l : ℕ). l / 9) refl l lt)
