@@ -18,7 +18,7 @@ const HELP: &str = "\
 bench all                               every measurement that needs no other program
 bench NAME                              one of them: formed, evaluation, reading, judging, book
 bench lister LISTER.. -- SECOND..       both listers as programs, each given as the words that run it
-bench stack                             the smallest stack in which the judge ends
+bench stack                             how much stack the judge uses
 bench plot                              what `bench judging` printed, from standard input, as a picture (SVG)
 bench --help                            print this
 ";
@@ -46,7 +46,6 @@ fn run(words: &[&str]) -> Option<()> {
     match *words {
         ["--help"] => print!("{HELP}"),
         ["stack"] => stack::run(),
-        ["in-stack", inputs, stack] => stack::try_in(inputs, stack)?,
         ["plot"] => {
             let printed = std::io::read_to_string(std::io::stdin()).ok()?;
             print!("{}", plot::picture(&printed));

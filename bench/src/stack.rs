@@ -1,55 +1,65 @@
-//! The smallest stack of a thread in which the judge ends, found by halving: each try is a process of its own, since a
-//! stack that is too small ends the process.
+//! How much stack the judge uses: the stack below is painted, the judge called, and the deepest byte that has lost its
+//! paint is looked for. That reads below the stack's end, which only a measurement may do.
 
-use crate::shapes::INDEPENDENT;
+use crate::shapes::{DEPENDENT, INDEPENDENT};
 use second::area::encode;
 use std::hint::black_box;
-use std::process::{Command, Stdio};
 use std::thread::Builder;
 
-const MOST: usize = 8 << 20;
-const STEP: usize = 4 << 10;
+const ROOM: usize = 4 << 20;
+const EDGE: usize = 4 << 10;
+const PAINT: u8 = 0xa5;
 
 pub fn run() {
     for inputs in [2, 5, 9] {
-        let kibibytes = smallest(inputs) >> 10;
-        println!("judging and square, {inputs} inputs, 64 rows: a thread of {kibibytes} KiB of stack is enough");
-    }
-}
-
-fn smallest(inputs: usize) -> usize {
-    let (mut low, mut high) = (0, MOST / STEP);
-    while low + 1 < high {
-        let middle = (low + high) / 2;
-        if ends(inputs, middle * STEP) {
-            high = middle;
-        } else {
-            low = middle;
+        for (name, make) in INDEPENDENT.into_iter().chain(DEPENDENT) {
+            let table = make(inputs, 64);
+            if table.rows.len() == 64 {
+                line(
+                    &format!("{inputs} inputs, 64 rows, {name}"),
+                    encode(&table).to_vec(),
+                );
+            }
         }
     }
-    high * STEP
 }
 
-fn ends(inputs: usize, stack: usize) -> bool {
-    let this = std::env::current_exe().expect("the program has a path");
-    let words = ["in-stack", &inputs.to_string(), &stack.to_string()];
-    let status = Command::new(this)
-        .args(words)
-        .stderr(Stdio::null())
-        .status();
-    status.expect("the program runs").success()
-}
-
-/// One try; nothing if the words are no numbers.
-pub fn try_in(inputs: &str, stack: &str) -> Option<()> {
-    let (inputs, stack): (usize, usize) = (inputs.parse().ok()?, stack.parse().ok()?);
-    let areas = INDEPENDENT.map(|(_, make)| encode(&make(inputs, 64)));
-    let judging = move || {
-        for area in areas {
-            let _ = black_box(bankplover::judge(&area));
-            let _ = black_box(bankplover::square(&area));
-        }
+fn line(what: &str, area: Vec<u8>) {
+    let measure = move || {
+        [
+            deepest(|| {
+                let _ = black_box(bankplover::judge(&area));
+            }),
+            deepest(|| {
+                let _ = black_box(bankplover::square(&area));
+            }),
+        ]
     };
-    let thread = Builder::new().stack_size(stack).spawn(judging).ok()?;
-    thread.join().ok()
+    let thread = Builder::new().stack_size(3 * ROOM).spawn(measure);
+    let [judging, square] = thread.expect("a thread").join().expect("it ends");
+    println!("stack of judging, {what}: {judging} bytes; of the square: {square} bytes");
+}
+
+fn deepest(call: impl Fn()) -> usize {
+    paint();
+    let before = lost();
+    call();
+    lost().max(before)
+}
+
+#[inline(never)]
+fn paint() {
+    let mut room = [PAINT; ROOM];
+    black_box(&mut room);
+}
+
+#[inline(never)]
+fn lost() -> usize {
+    let mark = 0u8;
+    let here = black_box(&mark) as *const u8 as usize;
+    let painted = |depth: usize| unsafe { ((here - depth) as *const u8).read_volatile() == PAINT };
+    (0..ROOM - EDGE)
+        .rev()
+        .find(|&depth| !painted(depth))
+        .unwrap_or(0)
 }

@@ -10,7 +10,8 @@ use lib.Dec.{eqb}
 use lib.ListN.{length, getD}
 use Rattle.base.proofs.Bools.{lt-or-ge}
 use Rattle.table.specs.Table.{Table}
-use Rattle.memo.specs.Rows.{maskOf, allRows, cells, cellAt}
+use Rattle.symbol.specs.Masks.{maskOf}
+use Rattle.memo.specs.Rows.{allRows, cells, cellAt}
 use Rattle.memo.specs.Pair.{othersOf}
 use Rattle.planes.specs.Words.{bit}
 use Rattle.lanes.specs.Columns.{topOf, matching, laneAt, Lanes}

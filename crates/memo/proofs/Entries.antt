@@ -26,8 +26,10 @@ use Rattle.orders.proofs.Candidates.{rank-value, length-vectorOf}
 use Rattle.orders.proofs.Digits.{digitOf, digit-low, value-digit, last-value, earlier-value}
 use Rattle.evaluation.specs.Step.{rowFor, answerOf, stepOf}
 use Rattle.evaluation.proofs.Laws.{step-arrives}
-use Rattle.memo.specs.Rows.{maskOf, lowest, columnOf, offeredRows, allRows, cellRow, cells, cellAt, restOf, outBy, entryOf, Small}
-use Rattle.memo.proofs.Masks.{mask-and, mask-ext, lowest-first}
+use Rattle.symbol.specs.Masks.{maskOf}
+use Rattle.memo.specs.Rows.{lowest, columnOf, offeredRows, allRows, cellRow, cells, cellAt, restOf, outBy, entryOf, Small}
+use Rattle.memo.proofs.Masks.{mask-ext, lowest-first}
+use Rattle.symbol.proofs.Masks.{mask-and}
 
 -- what the step answers where input k + 1 arrives from value number x at its value in vector number v, the old output being value number o
 unfoldable pub kept : ℕ → Step → ℕ → ℕ → ℕ → ℕ → ℕ

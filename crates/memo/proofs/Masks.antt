@@ -5,44 +5,13 @@ use mathlib.Core.Bool.{Bool, true, false, cond, _&&_}
 use mathlib.Core.Logic.{⊎-elim}
 use native.Mathlib.Nat.{pow-suc, eq-zero-or-pos, lt-of-lt-of-le, pow-le-pow-right}
 use native.Mathlib.Omega.{arith}
-use lib.Bits.{bitAnd, and-step}
 use lib.Count.{trailingZeros, under}
 use lib.Dec.{lit<}
 use borrow.Author.Tests.{eq-eqb, ne-eqb}
 use Rattle.base.specs.Search.{first, firstFrom}
-use Rattle.memo.specs.Rows.{maskFrom, maskOf, lowest}
-
-abbrev pub digit : Bool → ℕ
-digit b = cond b 1 0
-
-digit-small : (b : Bool) → digit b < 2
-digit-small true = omega arith
-digit-small false = omega arith
-
-digit-and : (a b : Bool) → min (digit a) (digit b) ≡ digit (a && b)
-digit-and true true = refl
-digit-and true false = refl
-digit-and false true = refl
-digit-and false false = refl
-
--- a number with a lowest digit put below it
-pub half : (x : ℕ) (b : Bool) → (x * 2 + digit b) / 2 ≡ x
-half x b = omega (arith, digit-small b)
-
-pub low : (x : ℕ) (b : Bool) → (x * 2 + digit b) % 2 ≡ digit b
-low x b = omega (arith, digit-small b)
-
--- two sets, and the numbers in both
-and-from : (f g : ℕ → Bool) (i m : ℕ) → bitAnd (maskFrom f i m) (maskFrom g i m) ≡ maskFrom (λ (k : ℕ). f k && g k) i m
-unfolding maskFrom
-and-from f g i zero = refl
-and-from f g i (suc m) =
-    and-step (maskFrom f i (suc m)) (maskFrom g i (suc m))
-    ∙ rw (half (maskFrom f (suc i) m) (f i), half (maskFrom g (suc i) m) (g i), low (maskFrom f (suc i) m) (f i), low (maskFrom g (suc i) m) (g i), and-from f g (suc i) m, digit-and (f i) (g i))
-
-pub mask-and : (f g : ℕ → Bool) (n : ℕ) → bitAnd (maskOf n f) (maskOf n g) ≡ maskOf n (λ (k : ℕ). f k && g k)
-unfolding maskOf
-mask-and f g n = and-from f g 0 n
+use Rattle.symbol.specs.Masks.{maskFrom, maskOf}
+use Rattle.symbol.proofs.Masks.{digit, digit-small, half, low}
+use Rattle.memo.specs.Rows.{lowest}
 
 ext-from : (f g : ℕ → Bool) → ((k : ℕ) → f k ≡ g k) → (i m : ℕ) → maskFrom f i m ≡ maskFrom g i m
 unfolding maskFrom

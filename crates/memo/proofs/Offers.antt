@@ -1,98 +1,34 @@
--- What a symbol matches, as bits. Assumes nothing.
+-- The sets of rows of a column, row by row. Assumes nothing.
 use Prim.Native.Nat.{ℕ, zero, suc, _+_, _-_, _*_, _/_, _%_, _^_, _<_, _≤_}
 use mathlib.Core.Path.{_≡_, refl, sym, _∙_}
 use mathlib.Core.Bool.{Bool, cond}
 use mathlib.Core.List.{List}
 use mathlib.Core.Logic.{⊎-elim}
-use native.Mathlib.Nat.{eq-or-lt-of-le, pow-suc, div-div-eq-div-mul, mul-comm, div-one, add-zero, zero-add, mul-le-mul}
+use native.Mathlib.Nat.{eq-or-lt-of-le, pow-suc, div-div-eq-div-mul, mul-comm, div-one, add-zero, zero-add}
 use native.Mathlib.Omega.{arith}
-use lib.Bits.{bitAnd}
 use lib.ListN.{length, getD, set, replicate, length-replicate, getD-replicate}
 use lib.Seq.{getD-set-same, getD-set-other}
-use borrow.Author.Tests.{le-ltb}
+use borrow.Author.Tests.{lt-ltb, le-ltb}
 use Rattle.base.specs.Listed.{listed}
 use Rattle.base.proofs.Listed.{listed-is, listed-length, listed-at}
 use Rattle.base.proofs.Patched.{Patched, patched-more}
-use Rattle.value.specs.Value.{rankOf, valueOf, sameValue}
-use Rattle.symbol.specs.declared.Level.{Level}
-use Rattle.symbol.specs.declared.Level.the-variants.{Zero, One, Unknown, Binary, Any}
-use Rattle.symbol.specs.declared.Symbol.the-variants.{Held, Edge}
-use Rattle.symbol.specs.Match.{matchLevel, matchEdge, matchHeld, matchChange, offered}
-use Rattle.table.specs.Table.{Table}
-use Rattle.memo.specs.Offers.{levelMask, edgeMask, offerMask}
-use Rattle.memo.specs.Rows.{maskFrom, maskOf, columnOf, offeredRows, cellRow}
-use Rattle.memo.proofs.Masks.{mask-lt, half, low, mask-top, mask-down, mask-bottom, mask-room}
+use Rattle.symbol.specs.Match.{offered}
+use Rattle.table.specs.Table.{Table, rowAt, symbolAt}
+use Rattle.symbol.specs.declared.Symbol.the-variants.{Held}
+use Rattle.symbol.specs.Masks.{maskFrom, maskOf, offers}
+use Rattle.symbol.proofs.Masks.{half, low}
+use Rattle.memo.specs.Rows.{columnOf, offeredRows, cellRow}
+use Rattle.memo.proofs.Masks.{mask-top, mask-down, mask-bottom, mask-room}
 
--- ---- the bits of a level, of a pair, of a symbol
+-- ---- what stands in a column
 
--- how the code works a pair's bits out
-abbrev joined : ℕ → ℕ → ℕ
-joined f g = bitAnd (f % 2 * g + (f / 2 % 2 * (g * 8) + f / 4 % 2 * (g * 64))) 238
+pub column-symbol : (t : Table) (i k : ℕ) → k < t .inputs → columnOf t i k ≡ symbolAt (rowAt t i) k
+unfolding columnOf
+column-symbol t i k h = rw (lt-ltb k (t .inputs) h)
 
-pub edge-mask : (v w : Level) → joined (levelMask v) (levelMask w) ≡ edgeMask v w
-unfolding levelMask edgeMask maskOf maskFrom matchLevel matchEdge sameValue valueOf rankOf
-edge-mask Zero Zero = refl
-edge-mask Zero One = refl
-edge-mask Zero Unknown = refl
-edge-mask Zero Binary = refl
-edge-mask Zero Any = refl
-edge-mask One Zero = refl
-edge-mask One One = refl
-edge-mask One Unknown = refl
-edge-mask One Binary = refl
-edge-mask One Any = refl
-edge-mask Unknown Zero = refl
-edge-mask Unknown One = refl
-edge-mask Unknown Unknown = refl
-edge-mask Unknown Binary = refl
-edge-mask Unknown Any = refl
-edge-mask Binary Zero = refl
-edge-mask Binary One = refl
-edge-mask Binary Unknown = refl
-edge-mask Binary Binary = refl
-edge-mask Binary Any = refl
-edge-mask Any Zero = refl
-edge-mask Any One = refl
-edge-mask Any Unknown = refl
-edge-mask Any Binary = refl
-edge-mask Any Any = refl
-
-pub held-offers : (l : Level) → levelMask l ≡ offerMask (Held l)
-unfolding levelMask offerMask maskOf maskFrom matchLevel offered matchHeld matchChange sameValue valueOf rankOf
-held-offers Zero = refl
-held-offers One = refl
-held-offers Unknown = refl
-held-offers Binary = refl
-held-offers Any = refl
-
-pub edge-offers : (v w : Level) → edgeMask v w * 8 ≡ offerMask (Edge v w)
-unfolding edgeMask offerMask maskOf maskFrom offered matchHeld matchChange
-edge-offers v w = omega arith
-
--- the numbers stay small
-product-low : (f g w : ℕ) → f < 2 → g ≤ w → f * g ≤ w
-product-low f g w h l = omega (arith, mul-le-mul {n₁ = f} {m₁ = g} {n₂ = 1} {m₂ = w} (omega arith) l)
-
-pub record Parts (f g : ℕ) : Type 0 where
-  pub whole : g < 8
-  pub first : f % 2 * g ≤ 7
-  pub second : f / 2 % 2 * (g * 8) ≤ 56
-  pub third : f / 4 % 2 * (g * 64) ≤ 448
-
-pub parts : (f g : ℕ) (w : Level) → g ≡ levelMask w → Parts f g
-unfolding levelMask maskOf
-parts f g w e =
-    let h : g < 8 = rw e (mask-lt (λ (c : ℕ). matchLevel w (valueOf c)) 0 3) in
-    record {
-      whole = h;
-      first = product-low (f % 2) g 7 (omega arith) (omega arith);
-      second = product-low (f / 2 % 2) (g * 8) 56 (omega arith) (omega arith);
-      third = product-low (f / 4 % 2) (g * 64) 448 (omega arith) (omega arith);
-    }
-
-pub edge-low : (v w : Level) (r : ℕ) → r ≡ edgeMask v w → r < 512
-unfolding edgeMask maskOf
-edge-low v w r e = rw e (mask-lt (λ (c : ℕ). matchEdge v w (valueOf (c / 3)) (valueOf (c % 3))) 0 9)
+pub column-state : (t : Table) (i k : ℕ) → t .inputs ≤ k → columnOf t i k ≡ Held (rowAt t i .state)
+unfolding columnOf
+column-state t i k h = rw (le-ltb k (t .inputs) h)
 
 -- ---- one bit of a set
 
@@ -144,9 +80,9 @@ module _ (t : Table) (k : ℕ) where
   pub from-room : (i : ℕ) (s : List ℕ) → From i s → 0 < i → rows ≤ 64 → (c : ℕ) → c < 12 → getD s c 0 < 2 ^ 63
   from-room i s w h l c b = mask-room (taken c) i (rows - i) (getD s c 0) (w .sets c b) (omega (arith, w .within))
 
-  pub from-more : (i bits : ℕ) (s u : List ℕ) → 0 < i → From i s → bits ≡ offerMask (columnOf t (i - 1) k) →
+  pub from-more : (i bits : ℕ) (s u : List ℕ) → 0 < i → From i s → bits ≡ offers (columnOf t (i - 1) k) →
       Patched (λ (c : ℕ). getD s c 0 * 2 + bits / 2 ^ c % 2) 0 s u 12 → From (i - 1) u
-  unfolding offerMask maskOf
+  unfolding offers maskOf
   from-more i bits s u h w e p = record {
     within = omega (arith, w .within);
     long = p .long ∙ w .long;

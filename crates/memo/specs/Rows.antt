@@ -13,17 +13,10 @@ use Rattle.value.specs.declared.Ternary.the-variants.{Vx}
 use Rattle.value.specs.Value.{rankOf, valueOf}
 use Rattle.symbol.specs.declared.Symbol.{Symbol}
 use Rattle.symbol.specs.declared.Symbol.the-variants.{Held}
+use Rattle.symbol.specs.Masks.{maskOf}
 use Rattle.symbol.specs.Match.{offered}
 use Rattle.table.specs.Table.{Table, rowAt, symbolAt}
 use Rattle.evaluation.specs.Step.{answerOr}
-
--- of the m numbers from i on, those of which f holds
-unfoldable pub maskFrom : (ℕ → Bool) → ℕ → ℕ → ℕ
-maskFrom f i zero = 0
-maskFrom f i (suc m) = maskFrom f (suc i) m * 2 + cond (f i) 1 0
-
-unfoldable pub maskOf : ℕ → (ℕ → Bool) → ℕ
-maskOf n f = maskFrom f 0 n
 
 -- the place of the lowest bit, or n
 unfoldable pub lowest : ℕ → ℕ → ℕ

@@ -2,11 +2,9 @@ ghost use mathlib.Core.Path.{_≡_};
 ghost use Prim.Native.Nat.{ℕ, _+_, _*_, _/_, _%_, _^_, _<_};
 ghost use lib.ListN.{length, getD};
 ghost use Rattle.base.proofs.Patched.{Patched};
+ghost use Rattle.symbol.specs.Masks.{offers};
 ghost use Rattle.table.specs.Area.{decode};
-ghost use Rattle.memo.specs.Offers.{levelMask, edgeMask, offerMask};
 ghost use Rattle.memo.specs.Rows.{columnOf, allRows, cellRow, cells, Small};
-use symbol::Level;
-use symbol::Symbol;
 
 // What a column may be offered: three values and nine changes.
 pub const OFFERS: usize = 12;
@@ -14,51 +12,21 @@ pub const OFFERS: usize = 12;
 // The columns of the masks: one for each input, and the state.
 pub const COLUMNS: usize = base::INPUTS + 1;
 
-// The values that a level matches, as bits.
-fn level_bits(l: Level) -> u64
-    ensures { λ r. ⌜ r ≡ levelMask l ⌝ }
+// A set of offers as a number of 64 bits.
+fn wide(x: u16) -> u64
+    ensures { λ r. ⌜ r ≡ x ⌝ }
 {
-    match l {
-        Level::Zero => 1,
-        Level::One => 2,
-        Level::Unknown => 4,
-        Level::Binary => 3,
-        Level::Any => 7,
-    }
+    x as u64
 }
 
-// The changes that a pair matches: from each value of the first to each of the second, but none to itself.
-fn change_bits(v: Level, w: Level) -> u64
-    ensures { λ r. ⌜ r ≡ edgeMask v w ⌝ }
-{
-    let f = level_bits(v);
-    let g = level_bits(w);
-    (f % 2 * g + (f / 2 % 2 * (g * 8) + f / 4 % 2 * (g * 64))) & 238
-}
-
-// All that a symbol matches.
-fn offer_bits(s: Symbol) -> u64
-    ensures { λ r. ⌜ r ≡ offerMask s ⌝ }
-{
-    match s {
-        Symbol::Held(l) => level_bits(l),
-        Symbol::Edge(v, w) => change_bits(v, w) * 8,
-        Symbol::Rise => 16,
-        Symbol::Fall => 64,
-        Symbol::Positive => 1072,
-        Symbol::Negative => 832,
-        Symbol::Every => 1904,
-    }
-}
-
-// The symbol of a row in a column; behind the last column stands the state.
-fn column_of(a: &[u8], i: usize, k: usize) -> Symbol
-    ensures { λ r. ⌜ r ≡ columnOf (decode (now (a .entry))) i k ⌝ }
+// What a column may be offered, if row i matches, as bits; behind the last column stands the state.
+fn offers_at(a: &[u8], i: usize, k: usize) -> u64
+    ensures { λ r. ⌜ r ≡ offers (columnOf (decode (now (a .entry))) i k) ⌝ }
 {
     if k < table::inputs(a) {
-        return table::symbol_in(a, i, k);
+        return wide(table::offers_in(a, i, k));
     }
-    Symbol::Held(table::state_in(a, i))
+    wide(table::state_offers(a, i))
 }
 
 // One row more in front of each set: bit c of `bits` tells whether it is in set c.
@@ -84,7 +52,7 @@ fn cell_row(a: &[u8], k: usize) -> [u64; OFFERS]
     let mut i = table::rows(a);
     while 0 < i {
         i -= 1;
-        add_row(&mut s, offer_bits(column_of(a, i, k)));
+        add_row(&mut s, offers_at(a, i, k));
     }
     s
 }

@@ -1,7 +1,7 @@
 ghost use mathlib.Core.Path.{_≡_};
 ghost use mathlib.Core.Bool.{true, cond};
 ghost use Prim.Native.Nat.{ℕ, _<_, _≤_};
-ghost use Rattle.memo.specs.Rows.{maskOf};
+ghost use Rattle.symbol.specs.Masks.{maskOf};
 ghost use Rattle.plain.specs.Plain.{firmAt, Steady, Edges, Only};
 
 fn firm_at(outs: &[u8; planes::OUTPUTS], k: usize) -> u64

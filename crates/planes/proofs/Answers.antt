@@ -13,7 +13,7 @@ use lib.ListN.{length, getD, length-set, set as set'}
 use lib.Seq.{getD-set-same, getD-set-other}
 use borrow.Author.Tests.{eqb-true, eqb-false, eq-eqb, ne-eqb}
 use Rattle.base.proofs.Bools.{clash}
-use Rattle.memo.specs.Rows.{maskOf}
+use Rattle.symbol.specs.Masks.{maskOf}
 use Rattle.planes.specs.Words.{bit, Told}
 use Rattle.planes.specs.Planes.{Low, laneRows, answerIn, answered}
 use Rattle.planes.proofs.Bits.{bit-and, bit-or, bit-xor, bit-zero, bit-ext, bit-mask, lowest-in, lowest-lt, below-lowest, lowest-is, clear-lowest}

@@ -9,7 +9,7 @@ use lib.Count.{trailingZeros, under}
 use lib.Dec.{eqb}
 use borrow.Author.Tests.{eq-eqb, ne-eqb}
 use Rattle.base.proofs.Bools.{clash}
-use Rattle.memo.specs.Rows.{maskFrom, maskOf}
+use Rattle.symbol.specs.Masks.{maskFrom, maskOf}
 use Rattle.planes.specs.Words.{bit}
 
 -- a digit is 0 or 1

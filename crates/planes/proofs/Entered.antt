@@ -19,7 +19,8 @@ use Rattle.symbol.specs.Match.{offered}
 use Rattle.table.specs.Table.{Table}
 use Rattle.orders.proofs.Candidates.{rank-low}
 use Rattle.evaluation.specs.Step.{answerOr}
-use Rattle.memo.specs.Rows.{maskOf, lowest, columnOf, offeredRows, cells, cellAt, outBy, entryOf}
+use Rattle.symbol.specs.Masks.{maskOf}
+use Rattle.memo.specs.Rows.{lowest, columnOf, offeredRows, cells, cellAt, outBy, entryOf}
 use Rattle.memo.proofs.Masks.{mask-lt}
 use Rattle.memo.proofs.Entries.{cell-is}
 use Rattle.planes.specs.Words.{bit}

@@ -11,7 +11,8 @@ use Rattle.base.specs.Limits.{rowLimit}
 use Rattle.value.specs.Value.{rankOf, valueOf}
 use Rattle.symbol.specs.Stored.{resultOf}
 use Rattle.table.specs.Table.{Table, rowAt}
-use Rattle.memo.specs.Rows.{maskOf, cells, cellAt, entryOf, Small}
+use Rattle.symbol.specs.Masks.{maskOf}
+use Rattle.memo.specs.Rows.{cells, cellAt, entryOf, Small}
 use Rattle.memo.specs.Pair.{firstThen, secondThen}
 use Rattle.planes.specs.Words.{bit, Told}
 

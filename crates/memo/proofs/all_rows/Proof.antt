@@ -5,7 +5,8 @@ use lib.ListN.{length}
 use native.Mathlib.Omega.{arith}
 use borrow.Author.Needs.{needs}
 use Rattle.table.specs.Area.{decode}
-use Rattle.memo.specs.Rows.{maskFrom, allRows}
+use Rattle.symbol.specs.Masks.{maskFrom}
+use Rattle.memo.specs.Rows.{allRows}
 use Rattle.memo.proofs.Masks.{mask-top, mask-down, mask-bottom, mask-room}
 use Rattle.memo.proofs.all_rows.Statement.{statement}
 use Rattle.memo.proofs.all_rows.Tie as tie

@@ -1,4 +1,3 @@
-use mathlib.Core.Path.{_∙_}
 use native.Mathlib.Omega.{arith}
 use borrow.Author.Needs.{needs}
 use Rattle.table.specs.Area.{decode}
@@ -22,14 +21,13 @@ cell-row-spec =
     (λ c. from-none _ _ _ (c .rows .ensures))
     (λ c. omega arith)
     (λ c κs. search needs)
-    (λ c κs. search needs)
     (λ c κs.
-    let l = c .before .before .before .before in
+    let l = c .before .before .before in
     let p = l .before .before .before .pre in
-    (l .loop .inv .long, from-room _ _ _ _ (l .loop .inv) (c .before .before .before .loop-test .taken) (p .rows)))
+    (l .loop .inv .long, from-room _ _ _ _ (l .loop .inv) (c .before .before .loop-test .taken) (p .rows)))
     (λ c. omega arith)
     (λ c.
-    let b = c .before .before in
+    let b = c .before in
     let l = b .before .before .before in
-    from-more _ _ _ _ _ _ (b .before .before .loop-test .taken) (l .loop .inv) (c .before .offer-bits .ensures ∙ rw (b .column-of .ensures)) (c .add-row .ensures))
+    from-more _ _ _ _ _ _ (b .before .before .loop-test .taken) (l .loop .inv) (b .offers-at .ensures) (c .add-row .ensures))
     (λ c. from-all _ _ _ _ (c .loop-test .left) (c .before .loop .inv)))
