@@ -8,7 +8,7 @@ ghost use Rattle.verdict.specs.declared.Finding.the-variants.{Dependent};
 ghost use Rattle.value.specs.Value.{readByte};
 ghost use Rattle.table.specs.Area.{orX};
 ghost use Rattle.symbol.specs.Match.{matchLevel, matchChange};
-ghost use Rattle.symbol.specs.Stored.{levelOf, symbolOf};
+ghost use Rattle.stored.specs.Stored.{levelOf, symbolOf};
 ghost use Rattle.formed.specs.Tests.{wellFormed};
 ghost use Rattle.evaluation.specs.Call.{evaluated};
 ghost use Rattle.bankplover.specs.Told.{evaluationNumber, evaluationTold};
@@ -56,7 +56,7 @@ fn value_in(b: u8) -> Ternary
 pub extern "C" fn bankplover_level_matches(level: u8, value: u8) -> bool
     ensures { λ r. ⌜ r ≡ matchLevel (levelOf level) (orX (readByte value)) ⌝ }
 {
-    symbol::level_matches(symbol::level_of(level), value_in(value))
+    symbol::level_matches(stored::level_of(level), value_in(value))
 }
 
 // A symbol, by its two stored bytes, matches a change.
@@ -65,7 +65,7 @@ pub extern "C" fn bankplover_change_matches(first: u8, second: u8, from: u8, to:
     ensures { λ r. ⌜ r ≡ matchChange (symbolOf first second) (orX (readByte from)) (orX (readByte to)) ⌝ }
 {
     symbol::change_matches(
-        symbol::symbol_of(first, second),
+        stored::symbol_of(first, second),
         value_in(from),
         value_in(to),
     )

@@ -17,8 +17,8 @@ use Rattle.base.proofs.Search.{every-at, first-found, first-none, first-le, fir
 use Rattle.value.specs.declared.Ternary.{Ternary}
 use Rattle.value.specs.declared.Ternary.the-variants.{V0, Vx}
 use Rattle.symbol.specs.declared.Output.{Output}
-use Rattle.symbol.specs.Match.{matchField, matchHeld, matchChange, isEdge}
-use Rattle.symbol.specs.Stored.{outputByte, resultOf}
+use Rattle.symbol.specs.Match.{matchField, matchHeld, matchChange, isEdge, resultOf}
+use Rattle.stored.specs.Stored.{outputByte}
 use Rattle.symbol.proofs.Meet.{level-is-held, change-is-edge}
 use Rattle.table.specs.Table.{Row, Table, rowAt, symbolAt}
 use Rattle.table.specs.Match.{fieldOf, columnsMatch, rowMatches, edgeAt}

@@ -8,7 +8,7 @@ use Rattle.base.specs.Search.{first}
 use Rattle.value.specs.declared.Ternary.{Ternary}
 use Rattle.value.specs.declared.Ternary.the-variants.{Vx}
 use Rattle.value.specs.Value.{sameValue}
-use Rattle.symbol.specs.Stored.{resultOf}
+use Rattle.symbol.specs.Match.{resultOf}
 use Rattle.table.specs.Table.{Table, rowAt}
 use Rattle.table.specs.Match.{rowMatches}
 use Rattle.orders.specs.Vectors.{at, put}

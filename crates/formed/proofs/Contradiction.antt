@@ -17,8 +17,8 @@ use Rattle.symbol.specs.declared.Symbol.{Symbol}
 use Rattle.symbol.specs.declared.Symbol.the-variants.{Held}
 use Rattle.symbol.specs.declared.Output.{Output}
 use Rattle.symbol.specs.Match.{matchLevel, matchHeld, matchChange, matchField, isEdge, meet}
-use Rattle.symbol.specs.Stored.{outputByte, outputOf}
-use Rattle.symbol.proofs.Stores.{output-of-byte}
+use Rattle.stored.specs.Stored.{outputByte, outputOf}
+use Rattle.stored.proofs.Stores.{output-of-byte}
 use Rattle.symbol.proofs.Meet.{level-is-held, change-is-edge, meet-level, meet-change, level-met, change-met}
 use Rattle.table.specs.Table.{Row, symbolAt}
 use Rattle.table.specs.Match.{fieldOf, columnsMatch, rowMatches, edgeAt}

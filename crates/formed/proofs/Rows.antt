@@ -13,8 +13,8 @@ use Rattle.symbol.specs.declared.Level.the-variants.{Any}
 use Rattle.symbol.specs.declared.Symbol.{Symbol}
 use Rattle.symbol.specs.declared.Output.the-variants.{Old}
 use Rattle.symbol.specs.Match.{isEdge, possible}
-use Rattle.symbol.specs.Stored.{levelByte, levelOf, outputByte}
-use Rattle.symbol.proofs.Stores.{level-of-byte}
+use Rattle.stored.specs.Stored.{levelByte, levelOf, outputByte}
+use Rattle.stored.proofs.Stores.{level-of-byte}
 use Rattle.table.specs.Table.{Row, symbolAt}
 use Rattle.table.specs.Match.{edgeAt}
 use Rattle.formed.specs.Valid.{Combinational, ValidRow}

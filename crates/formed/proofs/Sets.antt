@@ -17,7 +17,7 @@ use Rattle.symbol.specs.declared.Symbol.the-variants.{Held}
 use Rattle.symbol.specs.declared.Output.{Output}
 use Rattle.symbol.specs.Match.{isEdge, meet, possible}
 use Rattle.symbol.specs.Masks.{offers}
-use Rattle.symbol.specs.Stored.{outputByte}
+use Rattle.stored.specs.Stored.{outputByte}
 use Rattle.symbol.proofs.Offers.{meet-offers, possible-offers, edge-offers}
 use Rattle.table.specs.Table.{Row, Table, rowAt, symbolAt}
 use Rattle.formed.specs.Tests.{sameOutput, levelsMeet, columnsMeet, contradict, columnValid}

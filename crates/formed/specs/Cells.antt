@@ -6,7 +6,7 @@ use lib.ListN.{getD}
 use Rattle.base.specs.Limits.{inputLimit, rowLimit}
 use Rattle.symbol.specs.declared.Symbol.the-variants.{Held}
 use Rattle.symbol.specs.Masks.{offers}
-use Rattle.symbol.specs.Stored.{outputByte}
+use Rattle.stored.specs.Stored.{outputByte}
 use Rattle.table.specs.Table.{Row, Table, rowAt, symbolAt}
 
 abbrev pub stateCell : ℕ

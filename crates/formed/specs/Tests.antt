@@ -14,7 +14,7 @@ use Rattle.symbol.specs.declared.Symbol.{Symbol}
 use Rattle.symbol.specs.declared.Symbol.the-variants.{Held}
 use Rattle.symbol.specs.declared.Output.{Output}
 use Rattle.symbol.specs.Match.{isEdge, meet, possible}
-use Rattle.symbol.specs.Stored.{levelByte, outputByte}
+use Rattle.stored.specs.Stored.{levelByte, outputByte}
 use Rattle.text.specs.Words.{nameFits}
 use Rattle.table.specs.Table.{Row, Table, rowAt, symbolAt}
 use Rattle.table.specs.Match.{edgeAt}

@@ -14,7 +14,7 @@ use value::Ternary;
 fn same_output(o: Output, u: Output) -> bool
     ensures { λ r. ⌜ r ≡ sameOutput o u ⌝ }
 {
-    symbol::output_byte(o) == symbol::output_byte(u)
+    stored::output_byte(o) == stored::output_byte(u)
 }
 
 fn columns_meet(a: &[u8], i: usize, j: usize) -> bool
@@ -71,7 +71,7 @@ fn cells_in(a: &[u8], i: usize) -> [u16; CELLS]
 {
     let n = table::inputs(a);
     let state = table::state_offers(a, i);
-    let output = symbol::output_byte(table::output_in(a, i)) as u16;
+    let output = stored::output_byte(table::output_in(a, i)) as u16;
     let mut c = [0u16; CELLS];
     c[STATE] = state;
     c[OUTPUT] = output;

@@ -15,7 +15,7 @@ use Rattle.symbol.specs.declared.Level.the-variants.{Zero, One, Unknown, Binary
 use Rattle.symbol.specs.declared.Output.{Output}
 use Rattle.symbol.specs.declared.Output.the-variants.{Out0, Out1, Outx, Old}
 use Rattle.symbol.specs.Match.{isEdge}
-use Rattle.symbol.specs.Stored.{outputByte}
+use Rattle.stored.specs.Stored.{outputByte}
 use Rattle.table.specs.Table.{Row, Table}
 use Rattle.text.specs.Words.{isName, nameFits}
 use Rattle.text.specs.Reader.{Result, got, refused, Reader, bind, give, fault, skip, run, word, Named, name}

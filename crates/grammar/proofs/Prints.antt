@@ -23,7 +23,7 @@ use Rattle.symbol.specs.declared.Symbol.the-variants.{Held, Edge, Rise, Fall, P
 use Rattle.symbol.specs.declared.Output.{Output}
 use Rattle.symbol.specs.declared.Output.the-variants.{Out0, Out1, Outx, Old}
 use Rattle.symbol.specs.Match.{isEdge}
-use Rattle.symbol.specs.Stored.{levelByte, outputByte}
+use Rattle.stored.specs.Stored.{levelByte, outputByte}
 use Rattle.table.specs.Table.{Row, Table, rowAt, noRow}
 use Rattle.text.specs.Bytes.{bytes, is, starts, inName}
 use Rattle.text.specs.Words.{member, keywords, allInName, isName, nameFits}

@@ -10,7 +10,7 @@ use Rattle.symbol.specs.declared.Level.{Level}
 use Rattle.symbol.specs.declared.Symbol.{Symbol}
 use Rattle.symbol.specs.declared.Symbol.the-variants.{Held, Edge, Rise, Fall, Positive, Negative, Every}
 use Rattle.symbol.specs.declared.Output.{Output}
-use Rattle.symbol.specs.Stored.{levelByte, outputByte}
+use Rattle.stored.specs.Stored.{levelByte, outputByte}
 use Rattle.table.specs.Table.{Row, Table}
 use Rattle.text.specs.Bytes.{bytes}
 

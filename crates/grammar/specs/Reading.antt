@@ -9,7 +9,7 @@ use Rattle.base.specs.Limits.{rowLimit, textLimit}
 use Rattle.base.specs.Search.{every, some}
 use Rattle.value.specs.Value.{rankOf, valueOf, sameValue}
 use Rattle.symbol.specs.Match.{matchLevel, matchEdge, matchHeld, matchChange, isEdge, offered, meet, possible}
-use Rattle.symbol.specs.Stored.{outputByte}
+use Rattle.stored.specs.Stored.{outputByte}
 use Rattle.table.specs.Table.{Table}
 use Rattle.text.specs.Bytes.{bytes}
 use Rattle.text.specs.Reader.{Result, got, refused, Reader, _>>=_, _>>_, give, skip, keyword, name, basics}

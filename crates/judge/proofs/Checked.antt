@@ -10,8 +10,7 @@ use Rattle.base.specs.Search.{every, first, firstFrom}
 use Rattle.base.proofs.Bools.{clash}
 use Rattle.base.proofs.Search.{first-below, first-holds}
 use Rattle.value.specs.Value.{rankOf, valueOf, sameValue}
-use Rattle.symbol.specs.Match.{matchLevel, matchEdge, matchHeld, matchChange, matchField}
-use Rattle.symbol.specs.Stored.{resultOf}
+use Rattle.symbol.specs.Match.{matchLevel, matchEdge, matchHeld, matchChange, matchField, resultOf}
 use Rattle.table.specs.Match.{fieldOf, columnsMatch, rowMatches}
 use Rattle.orders.specs.Vectors.{vectorOf}
 use Rattle.orders.specs.Order.{Step, Laws, Every, Independent}

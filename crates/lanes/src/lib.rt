@@ -2,7 +2,7 @@ ghost use mathlib.Core.Path.{_≡_};
 ghost use mathlib.Core.Bool.{true, cond};
 ghost use Prim.Native.Nat.{ℕ, _-_, _/_, _%_, _<_, _≤_};
 ghost use Rattle.value.specs.Value.{rankOf, valueOf};
-ghost use Rattle.symbol.specs.Stored.{resultOf};
+ghost use Rattle.symbol.specs.Match.{resultOf};
 ghost use lib.ListN.{length};
 ghost use Rattle.table.specs.Table.{Table, rowAt};
 ghost use Rattle.table.specs.Area.{decode};

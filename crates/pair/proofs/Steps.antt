@@ -10,7 +10,7 @@ use lib.ListN.{length, getD}
 use borrow.Author.Tests.{lt-ltb, le-ltb, eq-eqb, ne-eqb}
 use Rattle.base.specs.Limits.{inputLimit}
 use Rattle.value.specs.Value.{rankOf, valueOf}
-use Rattle.symbol.specs.Stored.{resultOf}
+use Rattle.symbol.specs.Match.{resultOf}
 use Rattle.table.specs.Table.{Table, rowAt}
 use Rattle.orders.proofs.Candidates.{rank-low}
 use Rattle.evaluation.specs.Step.{answerOr}

@@ -9,7 +9,7 @@ use lib.Dec.{eqb}
 use lib.ListN.{length, getD}
 use Rattle.base.specs.Limits.{rowLimit}
 use Rattle.value.specs.Value.{rankOf, valueOf}
-use Rattle.symbol.specs.Stored.{resultOf}
+use Rattle.symbol.specs.Match.{resultOf}
 use Rattle.table.specs.Table.{Table, rowAt}
 use Rattle.symbol.specs.Masks.{maskOf}
 use Rattle.memo.specs.Rows.{cells, cellAt, entryOf, Small}

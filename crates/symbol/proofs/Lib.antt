@@ -1,4 +1,3 @@
-pub mod Stores
 pub mod Meet
 pub mod Masks
 pub mod Offers

@@ -1,6 +1,5 @@
 -- What the sets of a symbol's offers tell. Assumes nothing.
-use Prim.Native.Nat.{ℕ, zero, suc, _+_, _*_, _%_}
-use Prim.Native.Char.{code}
+use Prim.Native.Nat.{ℕ, suc, _%_}
 use mathlib.Core.Path.{_≡_, refl, sym, ap, _∙_}
 use mathlib.Core.Bool.{Bool, true, false, not, cond, _&&_}
 use native.Mathlib.Omega.{arith}
@@ -14,7 +13,6 @@ use Rattle.symbol.specs.declared.Symbol.{Symbol}
 use Rattle.symbol.specs.declared.Symbol.the-variants.{Held, Edge, Rise, Fall, Positive, Negative, Every}
 use Rattle.symbol.specs.Match.{matchLevel, matchEdge, matchHeld, matchChange, isEdge, offered, meet, possible}
 use Rattle.symbol.specs.Masks.{maskFrom, maskOf, offers}
-use Rattle.symbol.specs.Stored.{levelByte}
 use Rattle.symbol.proofs.Masks.{mask-and, some-mask}
 
 -- two symbols meet where their sets share an offer
@@ -44,53 +42,3 @@ edge-offers Fall = no-value (offered Fall) 9 refl refl refl
 edge-offers Positive = no-value (offered Positive) 9 refl refl refl
 edge-offers Negative = no-value (offered Negative) 9 refl refl refl
 edge-offers Every = no-value (offered Every) 9 refl refl refl
-
--- ? is offered each value
-pub any-offers : (l : Level) → eqb (levelByte l) (code "?") ≡ eqb (offers (Held l)) 7
-unfolding levelByte offers maskOf maskFrom offered matchHeld matchChange matchLevel sameValue rankOf valueOf
-any-offers Zero = refl
-any-offers One = refl
-any-offers Unknown = refl
-any-offers Binary = refl
-any-offers Any = refl
-
--- the changes from each value
-pub from-zero : (w : Level) → bitAnd (offers (Held w)) 6 * 8 ≡ offers (Edge Zero w)
-unfolding offers maskOf maskFrom offered matchHeld matchChange matchEdge matchLevel sameValue rankOf valueOf
-from-zero Zero = refl
-from-zero One = refl
-from-zero Unknown = refl
-from-zero Binary = refl
-from-zero Any = refl
-
-pub from-one : (w : Level) → bitAnd (offers (Held w)) 5 * 64 ≡ offers (Edge One w)
-unfolding offers maskOf maskFrom offered matchHeld matchChange matchEdge matchLevel sameValue rankOf valueOf
-from-one Zero = refl
-from-one One = refl
-from-one Unknown = refl
-from-one Binary = refl
-from-one Any = refl
-
-pub from-x : (w : Level) → bitAnd (offers (Held w)) 3 * 512 ≡ offers (Edge Unknown w)
-unfolding offers maskOf maskFrom offered matchHeld matchChange matchEdge matchLevel sameValue rankOf valueOf
-from-x Zero = refl
-from-x One = refl
-from-x Unknown = refl
-from-x Binary = refl
-from-x Any = refl
-
-pub from-binary : (w : Level) → bitAnd (offers (Held w)) 6 * 8 + bitAnd (offers (Held w)) 5 * 64 ≡ offers (Edge Binary w)
-unfolding offers maskOf maskFrom offered matchHeld matchChange matchEdge matchLevel sameValue rankOf valueOf
-from-binary Zero = refl
-from-binary One = refl
-from-binary Unknown = refl
-from-binary Binary = refl
-from-binary Any = refl
-
-pub from-any : (w : Level) → bitAnd (offers (Held w)) 6 * 8 + bitAnd (offers (Held w)) 5 * 64 + bitAnd (offers (Held w)) 3 * 512 ≡ offers (Edge Any w)
-unfolding offers maskOf maskFrom offered matchHeld matchChange matchEdge matchLevel sameValue rankOf valueOf
-from-any Zero = refl
-from-any One = refl
-from-any Unknown = refl
-from-any Binary = refl
-from-any Any = refl

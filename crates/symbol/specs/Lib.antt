@@ -1,3 +1,2 @@
 pub mod Match
 pub mod Masks
-pub mod Stored

@@ -10,6 +10,8 @@ use Rattle.symbol.specs.declared.Level.{Level}
 use Rattle.symbol.specs.declared.Level.the-variants.{Zero, One, Unknown, Binary, Any}
 use Rattle.symbol.specs.declared.Symbol.{Symbol}
 use Rattle.symbol.specs.declared.Symbol.the-variants.{Held, Edge, Rise, Fall, Positive, Negative, Every}
+use Rattle.symbol.specs.declared.Output.{Output}
+use Rattle.symbol.specs.declared.Output.the-variants.{Out0, Out1, Outx, Old}
 use Rattle.symbol.specs.declared.Field.{Field}
 
 -- 0, 1, x: that value; b: 0 or 1; ?: any value
@@ -68,3 +70,10 @@ meet s u = some 12 (λ (c : ℕ). offered s c && offered u c)
 -- something matches it: (00), (11) and (xx) match nothing, and are no symbols
 unfoldable pub possible : Symbol → Bool
 possible s = meet s s
+
+-- what a row with this output answers: - means the old output
+unfoldable pub resultOf : Output → Ternary → Ternary
+resultOf Out0 old = V0
+resultOf Out1 old = V1
+resultOf Outx old = Vx
+resultOf Old old = old

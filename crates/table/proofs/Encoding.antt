@@ -16,8 +16,8 @@ use Rattle.value.specs.declared.Ternary.{Ternary}
 use Rattle.value.specs.declared.Ternary.the-variants.{V0, V1, Vx}
 use Rattle.value.specs.Value.{byteOf, readByte}
 use Rattle.symbol.specs.declared.Symbol.{Symbol}
-use Rattle.symbol.specs.Stored.{levelByte, levelOf, symbolByte, secondByte, symbolOf, outputByte, outputOf}
-use Rattle.symbol.proofs.Stores.{level-of-byte, output-of-byte, symbol-of-bytes}
+use Rattle.stored.specs.Stored.{levelByte, levelOf, symbolByte, secondByte, symbolOf, outputByte, outputOf}
+use Rattle.stored.proofs.Stores.{level-of-byte, output-of-byte, symbol-of-bytes}
 use Rattle.table.specs.Places.{nameAt, kindAt, inputsAt, startAt, countAt, rowsAt, stateAt, outputAt, rowSize, areaSize, rowPlace}
 use Rattle.table.specs.Table.{Row, Table, Bounded, Shaped, rowAt, symbolAt, noRow, anySymbol}
 use Rattle.table.specs.Area.{kindByte, symbolPart, rowByte, rowsByte, areaByte, encode, symbolIn, rowIn, orX, decode, canonical}

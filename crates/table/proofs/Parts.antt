@@ -14,7 +14,7 @@ use Rattle.base.specs.Search.{every}
 use Rattle.base.proofs.Bools.{both, and, lt-or-ge}
 use Rattle.base.proofs.Search.{every-at, every-of}
 use Rattle.value.specs.Value.{byteOf}
-use Rattle.symbol.specs.Stored.{levelByte, levelOf, symbolByte, secondByte, symbolOf, outputByte, outputOf, storesLevel, storesSymbol, storesOutput}
+use Rattle.stored.specs.Stored.{levelByte, levelOf, symbolByte, secondByte, symbolOf, outputByte, outputOf, storesLevel, storesSymbol, storesOutput}
 use Rattle.table.specs.Places.{nameAt, kindAt, inputsAt, startAt, countAt, rowsAt, stateAt, outputAt, rowSize, areaSize, rowPlace}
 use Rattle.table.specs.Table.{Table, rowAt, symbolAt}
 use Rattle.table.specs.Area.{kindByte, symbolPart, rowByte, rowsByte, areaByte, symbolIn, decode, canonical}

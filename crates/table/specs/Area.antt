@@ -14,7 +14,7 @@ use Rattle.value.specs.declared.Byte.{Byte}
 use Rattle.value.specs.declared.Byte.the-variants.{Value, Other}
 use Rattle.value.specs.Value.{byteOf, readByte}
 use Rattle.symbol.specs.declared.Symbol.{Symbol}
-use Rattle.symbol.specs.Stored.{levelByte, levelOf, symbolByte, secondByte, symbolOf, outputByte, outputOf}
+use Rattle.stored.specs.Stored.{levelByte, levelOf, symbolByte, secondByte, symbolOf, outputByte, outputOf}
 use Rattle.table.specs.Places.{nameAt, kindAt, inputsAt, startAt, countAt, rowsAt, stateAt, outputAt, rowSize, areaSize, rowPlace}
 use Rattle.table.specs.Table.{Row, Table, Bounded, rowAt, symbolAt}
 

@@ -112,7 +112,7 @@ pub fn symbol_in(a: &[u8], i: usize, k: usize) -> Symbol
         return Symbol::Held(Level::Any);
     }
     let at = ROWS_AT + i * ROW_SIZE;
-    symbol::symbol_of(byte_at(a, at + 2 * k), byte_at(a, at + (2 * k + 1)))
+    stored::symbol_of(byte_at(a, at + 2 * k), byte_at(a, at + (2 * k + 1)))
 }
 
 // What that column may be offered, if the row matches, as a set.
@@ -120,13 +120,13 @@ pub fn offers_in(a: &[u8], i: usize, k: usize) -> u16
     ensures { λ r. ⌜ r ≡ offers (symbolAt (rowAt (decode (now (a .entry))) i) k) ⌝ }
 {
     if rows(a) <= i {
-        return symbol::level_offers(b'?');
+        return stored::level_offers(b'?');
     }
     if inputs(a) <= k {
-        return symbol::level_offers(b'?');
+        return stored::level_offers(b'?');
     }
     let at = ROWS_AT + i * ROW_SIZE;
-    symbol::offers_of(byte_at(a, at + 2 * k), byte_at(a, at + (2 * k + 1)))
+    stored::offers_of(byte_at(a, at + 2 * k), byte_at(a, at + (2 * k + 1)))
 }
 
 // The same for the state.
@@ -134,9 +134,9 @@ pub fn state_offers(a: &[u8], i: usize) -> u16
     ensures { λ r. ⌜ r ≡ offers (Held (rowAt (decode (now (a .entry))) i .state)) ⌝ }
 {
     if rows(a) <= i {
-        return symbol::level_offers(b'?');
+        return stored::level_offers(b'?');
     }
-    symbol::level_offers(byte_at(a, ROWS_AT + i * ROW_SIZE + STATE_AT))
+    stored::level_offers(byte_at(a, ROWS_AT + i * ROW_SIZE + STATE_AT))
 }
 
 pub fn state_in(a: &[u8], i: usize) -> Level
@@ -145,7 +145,7 @@ pub fn state_in(a: &[u8], i: usize) -> Level
     if rows(a) <= i {
         return Level::Any;
     }
-    symbol::level_of(byte_at(a, ROWS_AT + i * ROW_SIZE + STATE_AT))
+    stored::level_of(byte_at(a, ROWS_AT + i * ROW_SIZE + STATE_AT))
 }
 
 pub fn output_in(a: &[u8], i: usize) -> Output
@@ -154,7 +154,7 @@ pub fn output_in(a: &[u8], i: usize) -> Output
     if rows(a) <= i {
         return Output::Outx;
     }
-    symbol::output_of(byte_at(a, ROWS_AT + i * ROW_SIZE + OUTPUT_AT))
+    stored::output_of(byte_at(a, ROWS_AT + i * ROW_SIZE + OUTPUT_AT))
 }
 
 pub fn kind_byte(sequential: bool) -> u8
@@ -167,9 +167,9 @@ pub fn symbol_part(s: Symbol, m: usize) -> u8
     ensures { λ r. ⌜ r ≡ symbolPart s m ⌝ }
 {
     if m == 0 {
-        return symbol::symbol_byte(s);
+        return stored::symbol_byte(s);
     }
-    symbol::second_byte(s)
+    stored::second_byte(s)
 }
 
 fn lesser(x: usize, y: usize) -> usize
@@ -220,7 +220,7 @@ fn columns_stored(a: &[u8], i: usize, n: usize) -> bool
     while k < n {
         let b = byte_at(a, at + 2 * k);
         let c = byte_at(a, at + (2 * k + 1));
-        all = all & symbol::stores_symbol(b, c);
+        all = all & stored::stores_symbol(b, c);
         k += 1;
     }
     all
@@ -244,7 +244,7 @@ fn row_stored(a: &[u8], i: usize) -> bool
     }
     let state = byte_at(a, at + STATE_AT);
     let output = byte_at(a, at + OUTPUT_AT);
-    symbol::stores_level(state) & symbol::stores_output(output)
+    stored::stores_level(state) & stored::stores_output(output)
 }
 
 // The first m rows.

@@ -10,7 +10,7 @@ use Rattle.value.specs.declared.Ternary.{Ternary}
 use Rattle.symbol.specs.declared.Level.{Level}
 use Rattle.symbol.specs.declared.Symbol.{Symbol}
 use Rattle.symbol.specs.declared.Output.{Output}
-use Rattle.symbol.specs.Stored.{levelByte, outputByte}
+use Rattle.stored.specs.Stored.{levelByte, outputByte}
 use Rattle.table.specs.Places.{inputsAt, countAt, stateAt, outputAt, rowSize, areaSize, rowPlace}
 use Rattle.table.specs.Table.{Row, Table}
 use Rattle.table.specs.Area.{rowByte, encode}

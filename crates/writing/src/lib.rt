@@ -61,10 +61,10 @@ fn last_byte(state: Level, output: Output, k: usize) -> u8
     ensures { λ r. ⌜ r ≡ lastByte state output k ⌝ }
 {
     if k == table::STATE_AT {
-        return symbol::level_byte(state);
+        return stored::level_byte(state);
     }
     if k == table::OUTPUT_AT {
-        return symbol::output_byte(output);
+        return stored::output_byte(output);
     }
     0
 }

@@ -4,7 +4,7 @@ use mathlib.Core.Bool.{true, false}
 use native.Mathlib.Omega.{arith}
 use borrow.Author.Needs.{needs}
 use lib.ListN.{length, set, replicate, length-set, length-replicate}
-use Rattle.symbol.specs.Stored.{outputByte}
+use Rattle.stored.specs.Stored.{outputByte}
 use Rattle.table.specs.Area.{decode}
 use Rattle.table.specs.Table.{rowAt}
 use Rattle.formed.specs.Cells.{stateCell, outputCell, cellCount, Cells}

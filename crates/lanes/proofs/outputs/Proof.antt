@@ -3,7 +3,7 @@ use mathlib.Core.Path.{_≡_, _∙_}
 use native.Mathlib.Omega.{arith}
 use borrow.Author.Needs.{needs}
 use Rattle.value.specs.Value.{rankOf, valueOf}
-use Rattle.symbol.specs.Stored.{resultOf}
+use Rattle.symbol.specs.Match.{resultOf}
 use Rattle.table.specs.Table.{rowAt}
 use Rattle.table.specs.Area.{decode}
 use Rattle.orders.proofs.Candidates.{rank-low}

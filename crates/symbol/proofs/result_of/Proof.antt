@@ -1,4 +1,4 @@
-use Rattle.symbol.specs.Stored.{resultOf}
+use Rattle.symbol.specs.Match.{resultOf}
 use borrow.Author.Needs.{needs}
 use Rattle.symbol.proofs.result_of.Statement.{statement}
 use Rattle.symbol.proofs.result_of.Tie as tie

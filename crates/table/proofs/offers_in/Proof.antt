@@ -1,6 +1,6 @@
 use Rattle.table.proofs.Encoding.{decode-count, decode-inputs, decode-no-symbol, decode-no-column, decode-symbol}
 use Rattle.table.specs.Places.{countAt, inputsAt}
-use Rattle.symbol.specs.Stored.{levelOf}
+use Rattle.stored.specs.Stored.{levelOf}
 use Rattle.table.specs.Area.{symbolIn}
 use native.Mathlib.Omega.{arith}
 use borrow.Author.Needs.{needs}

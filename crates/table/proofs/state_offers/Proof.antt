@@ -1,6 +1,6 @@
 use Rattle.table.proofs.Encoding.{decode-count, decode-no-row, decode-state}
 use Rattle.table.specs.Places.{countAt}
-use Rattle.symbol.specs.Stored.{levelOf}
+use Rattle.stored.specs.Stored.{levelOf}
 use native.Mathlib.Omega.{arith}
 use borrow.Author.Needs.{needs}
 use Rattle.table.proofs.state_offers.Statement.{statement}

@@ -1,0 +1,18 @@
+use Rattle.value.specs.Value.{sameValue, rankOf, valueOf}
+use Rattle.symbol.specs.Match.{offered, matchHeld, matchChange, matchEdge, matchLevel}
+use Rattle.symbol.specs.Masks.{offers, maskOf, maskFrom}
+use Rattle.stored.specs.Stored.{levelOf}
+use borrow.Author.Tests.{ne-eqb}
+use Rattle.stored.proofs.level_offers.Statement.{statement}
+use Rattle.stored.proofs.level_offers.Tie as tie
+
+pub level-offers-spec : {M : Type 1} → statement M
+unfolding sameValue rankOf valueOf offered matchHeld matchChange matchEdge matchLevel offers maskOf maskFrom levelOf
+level-offers-spec =
+    tie.close
+    (tie.spec
+    (λ c. rw (c .match .keys1))
+    (λ c. rw (c .match .keys2))
+    (λ c. rw (c .match .keys3))
+    (λ c. rw (c .match .keys4))
+    (λ c. rw (ne-eqb _ _ (c .match .rest .0 .0 .0 .1), ne-eqb _ _ (c .match .rest .0 .0 .1), ne-eqb _ _ (c .match .rest .0 .1), ne-eqb _ _ (c .match .rest .1))))

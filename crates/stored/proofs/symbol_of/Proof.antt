@@ -1,0 +1,16 @@
+use Rattle.stored.specs.Stored.{symbolOf}
+use borrow.Author.Tests.{eq-eqb, ne-eqb}
+use borrow.Author.Needs.{needs}
+use Rattle.stored.proofs.symbol_of.Statement.{statement}
+use Rattle.stored.proofs.symbol_of.Tie as tie
+
+pub symbol-of-spec : {M : Type 1} → statement M
+unfolding symbolOf
+symbol-of-spec =
+    tie.close
+    (tie.spec
+    (λ c κs. search needs)
+    (λ c. rw (eq-eqb _ _ (c .before .if1 .taken), ← c .letter-of .ensures))
+    (λ c κs. search needs)
+    (λ c κs. search needs)
+    (λ c. rw (ne-eqb _ _ (c .before .before .if1 .left), ← c .before .level-of .ensures, ← c .level-of2 .ensures)))
