@@ -9,7 +9,7 @@ use Rattle.base.proofs.Search.{first-none}
 use Rattle.table.specs.Table.{Table}
 use Rattle.orders.specs.Verdict.{candidates}
 use Rattle.planes.specs.Planes as planes
-use Rattle.lanes.specs.Pairs.{PairAgrees}
+use Rattle.planes.specs.Pairs.{PairAgrees}
 use Rattle.pair.specs.Search.{Given, weight, differsBy, differsIn, differsAt, firstAt}
 use Rattle.judge.specs.Search.{pairFirst}
 use Rattle.judge.proofs.Findings.{pair-first}

@@ -16,7 +16,8 @@ use Rattle.memo.specs.Pair.{othersOf}
 use Rattle.planes.specs.Words.{bit}
 use Rattle.lanes.specs.Columns.{topOf, matching, laneAt, Lanes}
 use Rattle.planes.specs.Planes.{laneRows, Given}
-use Rattle.lanes.specs.Pairs.{OuterAgree, PairAgrees}
+use Rattle.planes.specs.Pairs.{PairAgrees}
+use Rattle.lanes.specs.Pairs.{OuterAgree}
 use Rattle.planes.proofs.Bits.{bit-and, bit-ext, bit-past}
 use Rattle.planes.proofs.Answers.{row-in}
 use Rattle.planes.proofs.Planes.{last-of}

@@ -11,7 +11,8 @@ ghost use Rattle.planes.specs.Words.{bit};
 ghost use Rattle.planes.specs.Planes.{Low, Outputs, Given};
 ghost use Rattle.plain.specs.Plain.{Plain};
 ghost use Rattle.lanes.specs.Columns.{topOf, lanesIn, LaneRow, Lanes};
-ghost use Rattle.lanes.specs.Pairs.{OuterAgree, PairAgrees};
+ghost use Rattle.planes.specs.Pairs.{PairAgrees};
+ghost use Rattle.lanes.specs.Pairs.{OuterAgree};
 use value::Ternary;
 
 // One more than the last of the first k columns that is neither i nor j, or zero.
