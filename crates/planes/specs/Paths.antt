@@ -21,7 +21,8 @@ differOf f h p q u v = bitOr (bitXor (pathOf f h p q 1) (pathOf h f u v 1)) (bit
 
 -- they agree in every lane for every old output
 unfoldable pub agreeOf : List (List ℕ) → List (List ℕ) → ℕ → ℕ → ℕ → ℕ → Bool
-agreeOf f h p q u v = eqb (bitOr (differOf f h p q u v) (bitOr (differOf f h (p + 1) q (u + 1) v) (differOf f h (p + 2) q (u + 2) v))) 0
+agreeOf f h p q u v =
+    eqb (bitAnd (bitOr (differOf f h p q u v) (bitOr (differOf f h (p + 1) q (u + 1) v) (differOf f h (p + 2) q (u + 2) v))) 134217727) 0
 
 -- the two orders agree where the first column goes from a to x and the second from b to y
 unfoldable pub agreeAt : List (List ℕ) → List (List ℕ) → ℕ → ℕ → ℕ → ℕ → Bool

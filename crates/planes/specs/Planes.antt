@@ -1,7 +1,7 @@
 -- The steps of two columns in 27 lanes at once. A lane stands for values of the other columns.
 use Prim.Native.Nat.{ℕ, _+_, _*_, _/_, _%_, _<_}
 use mathlib.Core.Path.{_≡_}
-use mathlib.Core.Bool.{Bool, false, cond}
+use mathlib.Core.Bool.{Bool, true, false, cond}
 use mathlib.Core.List.{List, []}
 use lib.Bits.{bitAnd}
 use lib.Count.{trailingZeros}
@@ -104,3 +104,8 @@ pub record Given (t : Table) (s : List (List ℕ)) (outs : List ℕ) (n i j : �
 -- for the table that s and outs are of, the two orders agree in every lane where the rows r match in the columns that the lanes leave
 pub record LanesAgree (s : List (List ℕ)) (outs g : List ℕ) (n i j r : ℕ) : Type 0 where
   pub at : (t : Table) (l : ℕ) → l < 27 → Given t s outs n i j → Agree t s i j (bitAnd r (laneRows g l))
+
+-- b tells whether they do
+pub record LanesTell (s : List (List ℕ)) (outs g : List ℕ) (n i j r : ℕ) (b : Bool) : Type 0 where
+  pub sound : b ≡ true → LanesAgree s outs g n i j r
+  pub whole : (t : Table) → Given t s outs n i j → ((l : ℕ) → l < 27 → Agree t s i j (bitAnd r (laneRows g l))) → b ≡ true

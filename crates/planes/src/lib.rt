@@ -2,7 +2,7 @@ ghost use mathlib.Core.Path.{_≡_};
 ghost use mathlib.Core.Bool.{false, true};
 ghost use Prim.Native.Nat.{ℕ, _<_};
 ghost use Rattle.base.specs.Search.{every};
-ghost use Rattle.planes.specs.Planes.{Low, Spread, Closed, rowsBy, Level, Levels, placeOf, Step, Steps, LanesAgree};
+ghost use Rattle.planes.specs.Planes.{Low, Spread, Closed, rowsBy, Level, Levels, placeOf, Step, Steps, LanesTell};
 ghost use Rattle.planes.specs.Paths.{pathOf, differOf, agreeOf, agreeAt, agreeIn};
 
 // All 27 lanes.
@@ -199,7 +199,7 @@ fn agree(f: &[[u32; 3]; 81], h: &[[u32; 3]; 81], p: usize, q: usize, u: usize, v
     let first = differ(f, h, p, q, u, v);
     let second = differ(f, h, p + 1, q, u + 1, v);
     let third = differ(f, h, p + 2, q, u + 2, v);
-    (first | (second | third)) == 0
+    ((first | (second | third)) & LANES) == 0
 }
 
 // Both orders agree in every lane where the first column goes from a to x and the second from b to y.
@@ -247,7 +247,7 @@ fn all_agree(f: &[[u32; 3]; 81], h: &[[u32; 3]; 81]) -> bool
     true
 }
 
-// Both orders agree in every lane, where the rows r match in the columns that the lanes leave.
+// Whether both orders agree in every lane, where the rows r match in the columns that the lanes leave.
 pub fn lanes_agree(
     g: &[u32; base::ROWS],
     outs: &[u8; OUTPUTS],
@@ -258,7 +258,7 @@ pub fn lanes_agree(
     r: u64,
 ) -> bool
     requires { ⌜ (n < 10) × (i < 10) × (j < 10) × Low (now outs) ⌝ }
-    ensures { λ b. ⌜ (b ≡ true → LanesAgree (now (s .entry)) (now (outs .entry)) (now (g .entry)) n i j r) ⌝ }
+    ensures { λ b. ⌜ LanesTell (now (s .entry)) (now (outs .entry)) (now (g .entry)) n i j r b ⌝ }
 {
     let lev = levels(g, outs, s, n, i, j, r);
     let f = steps(g, outs, &lev, s, n, i, j, false, r);
