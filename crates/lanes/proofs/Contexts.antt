@@ -15,9 +15,9 @@ use Rattle.memo.specs.Rows.{allRows, cells, cellAt}
 use Rattle.memo.specs.Pair.{othersOf}
 use Rattle.planes.specs.Words.{bit}
 use Rattle.lanes.specs.Columns.{topOf, matching, laneAt, Lanes}
-use Rattle.planes.specs.Planes.{laneRows, Given}
-use Rattle.planes.specs.Pairs.{PairAgrees}
-use Rattle.lanes.specs.Pairs.{OuterAgree}
+use Rattle.planes.specs.Planes.{laneRows, Agree, Given}
+use Rattle.planes.specs.Pairs.{PairAgrees, Tells}
+use Rattle.lanes.specs.Pairs.{OuterTell}
 use Rattle.planes.proofs.Bits.{bit-and, bit-ext, bit-past}
 use Rattle.planes.proofs.Answers.{row-in}
 use Rattle.planes.proofs.Planes.{last-of}
@@ -43,6 +43,28 @@ others-matching s all i j (suc k) v = go (eqb k i || eqb k j) (squeeze i j k (v 
         let p : (c * 3 + v % 3) / 3 ≡ c = omega arith in
         let q : (c * 3 + v % 3) % 3 ≡ v % 3 = omega arith in
         rw (p, q, e)
+
+-- and the vector that has them, with zero for i and j
+widen : ℕ → ℕ → ℕ → ℕ → ℕ
+widen i j zero c = 0
+widen i j (suc k) c = cond (eqb k i || eqb k j) (widen i j k c * 3) (widen i j k (c / 3) * 3 + c % 3)
+
+others-wide : (s : List (List ℕ)) (all i j k c : ℕ) → othersOf s all i j k (widen i j k c) ≡ matching s all i j k c
+unfolding othersOf matching widen
+others-wide s all i j zero c = refl
+others-wide s all i j (suc k) c = go (eqb k i || eqb k j) (others-wide s all i j k c) (others-wide s all i j k (c / 3))
+  where
+    wide : Bool → ℕ
+    wide b = cond b (widen i j k c * 3) (widen i j k (c / 3) * 3 + c % 3)
+
+    go : (b : Bool) → othersOf s all i j k (widen i j k c) ≡ matching s all i j k c → othersOf s all i j k (widen i j k (c / 3)) ≡ matching s all i j k (c / 3) →
+        cond b (othersOf s all i j k (wide b / 3)) (bitAnd (othersOf s all i j k (wide b / 3)) (cellAt s k (wide b % 3)))
+        ≡ cond b (matching s all i j k c) (bitAnd (matching s all i j k (c / 3)) (cellAt s k (c % 3)))
+    go true e h = let p : widen i j k c * 3 / 3 ≡ widen i j k c = omega arith in rw p e
+    go false e h =
+        let p : (widen i j k (c / 3) * 3 + c % 3) / 3 ≡ widen i j k (c / 3) = omega arith in
+        let q : (widen i j k (c / 3) * 3 + c % 3) % 3 ≡ c % 3 = omega arith in
+        rw (p, q, h)
 
 low-same : (y z a : ℕ) → z ≡ a * 9 + y → y % 3 ≡ z % 3
 low-same y z a e = omega arith
@@ -83,27 +105,44 @@ module _ (s : List (List ℕ)) (all i j n t u v m : ℕ) (g : List ℕ) (et : t 
       (λ (l : m ≤ r). matching-past i j s all n c r (few r l) ∙ sym (bit-and (matching s all i j (v - 1) (c / 27)) (laneRows g (c % 27)) r ∙ rw (matching-past i j s all (v - 1) (c / 27) r (few r l))))
       (lt-or-ge r m))
 
-pub pair-by : (t : Table) (s : List (List ℕ)) (outs : List ℕ) (all i j n p q w m : ℕ) (g : List ℕ) → Given t s outs n i j → all ≡ allRows t →
-    p ≡ topOf i j n → q ≡ topOf i j (p - 1) → w ≡ topOf i j (q - 1) → m ≡ length (t .rows) → Lanes s p q w m g → OuterAgree s outs g n i j (w - 1) all → PairAgrees t i j
-unfolding allRows
-pair-by t s outs all i j n p q w m g d ea ep eq ew em lanes a = record {
-  at = λ v.
-      let c = squeeze i j n v in
-      let e : othersOf s all i j n v ≡ bitAnd (matching s all i j (w - 1) (c / 27)) (laneRows g (c % 27))
-      = others-matching s all i j n v ∙ split s all i j n p q w m g ep eq ew (rw em (d .small .rows)) few lanes c in
-      let r = rw (← e) at (a .at (c / 27) .at t (c % 27) (omega arith) d) in
-      rw (d .cells-are, ea, d .inputs-are) at r;
-}
-  where
-    few : (r : ℕ) → m ≤ r → bit all r ≡ false
-    few r l = rw ea (bit-past (λ (i : ℕ). true) (length (t .rows)) r (rw em at l))
+module _ (t : Table) (s : List (List ℕ)) (outs : List ℕ) (all i j n : ℕ) (d : Given t s outs n i j) (ea : all ≡ allRows t) where
+  pub pair-by : (p q w m : ℕ) (g : List ℕ) (b : Bool) → p ≡ topOf i j n → q ≡ topOf i j (p - 1) → w ≡ topOf i j (q - 1) → m ≡ length (t .rows) → Lanes s p q w m g →
+      OuterTell s outs g n i j (w - 1) all b → Tells t i j b
+  unfolding allRows
+  pair-by p q w m g b ep eq ew em lanes a = record {
+    sound = λ y. record {
+      at = λ v.
+          let c = squeeze i j n v in
+          let r = rw (← (others-matching s all i j n v ∙ parts c)) at (a .sound y .at (c / 27) .at t (c % 27) (omega arith) d) in
+          rw (d .cells-are, ea, d .inputs-are) at r;
+    };
+    whole = λ y. a .whole t d (λ c l lt.
+        rw (others-wide s all i j n (c * 27 + l), lane-parts c l lt) at (vector y (widen i j n (c * 27 + l))));
+  }
+    where
+      few : (r : ℕ) → m ≤ r → bit all r ≡ false
+      few r l = rw ea (bit-past (λ (i : ℕ). true) (length (t .rows)) r (rw em at l))
 
--- where every row is plain there is nothing to look at
-pub plain-by : (t : Table) (s : List (List ℕ)) (outs : List ℕ) (all i j n steady edges : ℕ) → Given t s outs n i j → all ≡ allRows t → Plain s outs n i j steady edges → Only all steady edges →
-    PairAgrees t i j
-plain-by t s outs all i j n steady edges d ea p o = record {
-  at = λ v.
-      let r = plain-agree t s outs n i j d (othersOf s all i j n v) all steady edges
-      (λ k e. matching-in i j s all n (squeeze i j n v) k (rw (others-matching s all i j n v) at e)) (p .rows) (p .first) (p .second) o in
-      rw (d .cells-are, ea, d .inputs-are) at r;
-}
+      parts : (c : ℕ) → matching s all i j n c ≡ bitAnd (matching s all i j (w - 1) (c / 27)) (laneRows g (c % 27))
+      parts c = split s all i j n p q w m g ep eq ew (rw em (d .small .rows)) few lanes c
+
+      vector : PairAgrees t i j → (v : ℕ) → Agree t s i j (othersOf s all i j n v)
+      vector y v = rw (d .cells-are, ea, d .inputs-are) (y .at v)
+
+      lane-parts : (c l : ℕ) → l < 27 → matching s all i j n (c * 27 + l) ≡ bitAnd (matching s all i j (w - 1) c) (laneRows g l)
+      lane-parts c l lt =
+          let x : (c * 27 + l) / 27 ≡ c = omega arith in
+          let y : (c * 27 + l) % 27 ≡ l = omega arith in
+          rw (x, y) at (parts (c * 27 + l))
+
+  -- where every row is plain there is nothing to look at
+  pub plain-by : (steady edges : ℕ) → Plain s outs n i j steady edges → Only all steady edges → Tells t i j true
+  plain-by steady edges p o = record {
+    sound = λ y. record {
+      at = λ v.
+          let r = plain-agree t s outs n i j d (othersOf s all i j n v) all steady edges
+          (λ k e. matching-in i j s all n (squeeze i j n v) k (rw (others-matching s all i j n v) at e)) (p .rows) (p .first) (p .second) o in
+          rw (d .cells-are, ea, d .inputs-are) at r;
+    };
+    whole = λ y. refl;
+  }

@@ -1,5 +1,5 @@
 ghost use mathlib.Core.Path.{_≡_};
-ghost use mathlib.Core.Bool.{true, cond};
+ghost use mathlib.Core.Bool.{cond};
 ghost use Prim.Native.Nat.{ℕ, _-_, _/_, _%_, _<_, _≤_};
 ghost use Rattle.value.specs.Value.{rankOf, valueOf};
 ghost use Rattle.symbol.specs.Match.{resultOf};
@@ -11,8 +11,8 @@ ghost use Rattle.planes.specs.Words.{bit};
 ghost use Rattle.planes.specs.Planes.{Low, Outputs, Given};
 ghost use Rattle.plain.specs.Plain.{Plain};
 ghost use Rattle.lanes.specs.Columns.{topOf, lanesIn, LaneRow, Lanes};
-ghost use Rattle.planes.specs.Pairs.{PairAgrees};
-ghost use Rattle.lanes.specs.Pairs.{OuterAgree};
+ghost use Rattle.planes.specs.Pairs.{Tells};
+ghost use Rattle.lanes.specs.Pairs.{OuterTell};
 use value::Ternary;
 
 // One more than the last of the first k columns that is neither i nor j, or zero.
@@ -86,7 +86,7 @@ fn lanes(
     g
 }
 
-// Both orders agree in every lane, whatever values the first k columns but i and j have; the rows r match in those behind.
+// Whether both orders agree in every lane, whatever values the first k columns but i and j have; the rows r match in those behind.
 fn outer_agree(
     g: &[u32; base::ROWS],
     outs: &[u8; planes::OUTPUTS],
@@ -100,7 +100,7 @@ fn outer_agree(
     r: u64,
 ) -> bool
     requires { ⌜ (n < 10) × (i < 10) × (j < 10) × (k ≤ 10) × Low (now outs) × Plain (now s) (now outs) n i j steady edges ⌝ }
-    ensures { λ b. ⌜ (b ≡ true → OuterAgree (now (s .entry)) (now (outs .entry)) (now (g .entry)) n i j k r) ⌝ }
+    ensures { λ b. ⌜ OuterTell (now (s .entry)) (now (outs .entry)) (now (g .entry)) n i j k r b ⌝ }
 {
     if plain::only_plain(r, steady, edges) {
         return true;
@@ -162,7 +162,7 @@ fn before(t: usize) -> usize
     if t == 0 { 0 } else { t - 1 }
 }
 
-// True where the two orders of columns i and j agree whatever values the others have, for a table of n inputs and m rows; false tells nothing.
+// Whether the two orders of columns i and j agree whatever values the others have, for a table of n inputs and m rows.
 pub fn pair_agrees(
     s: &[[u64; memo::OFFERS]; memo::COLUMNS],
     outs: &[u8; planes::OUTPUTS],
@@ -173,16 +173,12 @@ pub fn pair_agrees(
     j: usize,
 ) -> bool
     requires { ⌜ (n ≤ 9) × (m ≤ 64) × (i < n) × (j < n) × Low (now outs) ⌝ }
-    ensures { λ r. ⌜ (r ≡ true → (t : Table) → Given t (now (s .entry)) (now (outs .entry)) n i j → all ≡ allRows t → m ≡ length (t .rows) → PairAgrees t i j) ⌝ }
+    ensures { λ r. ⌜ ((t : Table) → Given t (now (s .entry)) (now (outs .entry)) n i j → all ≡ allRows t → m ≡ length (t .rows) → Tells t i j r) ⌝ }
 {
     let steady = plain::steady_rows(s, outs, n, m);
     let edges = plain::edges_of(s, i, j);
     if plain::only_plain(all, steady, edges) {
         return true;
-    }
-    // With no other column there is one lane, and the search is as fast.
-    if n < 3 {
-        return false;
     }
     let t = top_of(i, j, n);
     let u = top_of(i, j, before(t));

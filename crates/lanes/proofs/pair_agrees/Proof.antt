@@ -1,7 +1,5 @@
-use mathlib.Core.Path.{sym}
 use native.Mathlib.Omega.{arith}
 use borrow.Author.Needs.{needs}
-use Rattle.base.proofs.Bools.{clash}
 use Rattle.lanes.proofs.Contexts.{pair-by, plain-by}
 use Rattle.lanes.proofs.pair_agrees.Statement.{statement}
 use Rattle.lanes.proofs.pair_agrees.Tie as tie
@@ -13,12 +11,11 @@ pair-agrees-spec =
     (λ c κs. (omega arith, omega arith))
     (λ c κs. (omega arith, omega arith))
     (λ c κs. search needs)
-    (λ c e t G ea em.
+    (λ c t G ea em.
     let x = c .before .before in
-    plain-by t _ _ _ _ _ _ _ _ G ea
+    plain-by t _ _ _ _ _ _ G ea _ _
     (record { rows = x .before .steady-rows .ensures; first = x .edges-of .ensures .0; second = x .edges-of .ensures .1 })
     (c .before .only-plain .ensures (c .if1 .taken)))
-    (λ c e. clash (sym e))
     (λ c κs. search needs)
     (λ c κs. search needs)
     (λ c κs. search needs)
@@ -35,7 +32,7 @@ pair-agrees-spec =
     (λ c κs.
     let v = c .before .before .before in
     let p = v .before .before .before .before in
-    let x = p .before .before .before .before in (
+    let x = p .before .before .before in (
       omega arith,
       omega arith,
       omega arith,
@@ -43,15 +40,15 @@ pair-agrees-spec =
       x .before .before .pre .4,
       record { rows = x .before .steady-rows .ensures; first = x .edges-of .ensures .0; second = x .edges-of .ensures .1 },
     ))
-    (λ c e t G ea em.
+    (λ c t G ea em.
     let l = c .before .before .before in
     let v = l .before in
     let q = v .before .before in
     let p = q .before .before in
-    pair-by t _ _ _ _ _ _ _ _ _ _ _ G ea
+    pair-by t _ _ _ _ _ _ G ea _ _ _ _ _ _
     (p .top-of .ensures .0)
     (rw (q .before .before2 .ensures) at (q .top-of2 .ensures .0))
     (rw (v .before .before3 .ensures) at (v .top-of3 .ensures .0))
     em
     (l .lanes .ensures)
-    (rw (c .before .before4 .ensures) at (c .outer-agree .ensures e))))
+    (rw (c .before .before4 .ensures) at (c .outer-agree .ensures))))
