@@ -1,5 +1,5 @@
 -- The two orders of a pair agree for every vector exactly where no candidate differs. Assumes nothing.
-use Prim.Native.Nat.{ℕ, zero, suc, _+_, _-_, _*_, _/_, _%_, _^_, _<_}
+use Prim.Native.Nat.{ℕ, zero, suc, _+_, _-_, _*_, _/_, _%_, _^_, _<_, _≤_}
 use mathlib.Core.Path.{_≡_, refl, sym, _∙_}
 use mathlib.Core.Bool.{Bool, true, false, _||_, or-true}
 use mathlib.Core.List.{List}
@@ -76,7 +76,7 @@ module _ (n i j : ℕ) (lt : i < j) (lj : j < n) (v a b : ℕ) (la : a < 3) (lb 
       let q : (eqb j i || eqb j j) ≡ true = rw (eq-eqb j j refl) (or-true (eqb j i)) in
       others-put s all i j i n _ a p la (omega arith) ∙ others-put s all i j j n _ b q lb lj ∙ others-low s all i j n v
 
-no-difference : (t : Table) (i j : ℕ) → i < j → j < t .inputs → firstAt t i j ≡ candidates (t .inputs) → (v a b x y o : ℕ) → a < 3 → b < 3 → x < 3 → y < 3 → o < 3 →
+no-difference : (t : Table) (i j : ℕ) → i < j → j < t .inputs → candidates (t .inputs) ≤ firstAt t i j → (v a b x y o : ℕ) → a < 3 → b < 3 → x < 3 → y < 3 → o < 3 →
     firstThen t (cells t) i j (othersOf (cells t) (allRows t) i j (t .inputs) v) a b x y o ≡ secondThen t (cells t) i j (othersOf (cells t) (allRows t) i j (t .inputs) v) a b x y o
 unfolding firstAt differsAt differsIn differsBy
 no-difference t i j lt lj e v a b x y o la lb lx ly lo =
@@ -85,16 +85,16 @@ no-difference t i j lt lj e v a b x y o la lb lx ly lo =
     let r : ℕ = w * 27 + (x * 9 + (y * 3 + o)) in
     let low = number-lt n i j lt lj v a b la lb in
     let h : r < candidates n = omega (arith, low) in
-    let f = first-below (differsAt t i j) (candidates n) r (rw e h) in
+    let f = first-below (differsAt t i j) (candidates n) r (omega (arith, h, e)) in
     let ew : r / 27 ≡ w = omega arith in
     let ex : r % 27 / 9 ≡ x = omega arith in
     let ey : r % 27 / 3 % 3 ≡ y = omega arith in
     let eo : r % 27 % 3 ≡ o = omega arith in
     eqb-true _ _ (not-false _ (rw (ew, ex, ey, eo, first-digit n i j lt lj v a b la lb, second-digit n i j lt lj v a b la lb, others-number n i j lt lj v a b la lb (cells t) (allRows t)) at f))
 
-pub agrees-by : (t : Table) (i j : ℕ) → i < j → j < t .inputs → pairFirst t i j ≡ candidates (t .inputs) → PairAgrees t i j
+pub agrees-by : (t : Table) (i j : ℕ) → i < j → j < t .inputs → candidates (t .inputs) ≤ pairFirst t i j → PairAgrees t i j
 agrees-by t i j lt lj e = record {
-  at = λ v. record { same = λ a b x y o la lb lx ly lo. no-difference t i j lt lj (sym (pair-first t i j lt lj) ∙ e) v a b x y o la lb lx ly lo };
+  at = λ v. record { same = λ a b x y o la lb lx ly lo. no-difference t i j lt lj (rw (pair-first t i j lt lj) at e) v a b x y o la lb lx ly lo };
 }
 
 -- what the search of a pair is given is what the lanes are given

@@ -5,10 +5,10 @@ use mathlib.Core.Logic.{_⊎_, inl, inr, ⊎-elim}
 use mathlib.Core.Bool.{Bool, true, false, not, cond, _&&_, _||_}
 use mathlib.Core.List.{List, []}
 use native.Mathlib.Omega.{arith}
-use lib.Dec.{ltb, leb}
+use lib.Dec.{ltb}
 use lib.ListN.{getD}
 use lib.Seq.{getD-take}
-use borrow.Author.Tests.{ltb-true, lt-ltb, le-ltb, lt-leb, le-leb}
+use borrow.Author.Tests.{ltb-true, lt-ltb, le-ltb}
 use Rattle.base.specs.Limits.{inputLimit}
 use Rattle.base.specs.Listed.{listed}
 use Rattle.base.specs.Search.{some, first}
@@ -24,7 +24,9 @@ use Rattle.pair.specs.Search.{differsAt, firstAt}
 use Rattle.judge.specs.Search.{pairFirst, pairDiffers, yesIn, squareIn}
 use Rattle.judge.specs.Judge.{disagree, pairYes, squareOf}
 use Rattle.judge.proofs.Ranks.{differs-is}
+use Rattle.planes.specs.Pairs.{Tells}
 use Rattle.judge.proofs.Findings.{no-pair}
+use Rattle.judge.proofs.Agreeing.{agreed, agrees-by}
 
 first-some : (m : ℕ) (g h : ℕ → Bool) → ((k : ℕ) → k < m → g k ≡ h k) → ltb (first m g) m ≡ some m h
 first-some m g h e = ⊎-elim found none (lt-or-ge (first m g) m)
@@ -92,11 +94,17 @@ pub yes-before : (t : Table) (i j : ℕ) (l : List (List Bool)) (b : Bool) → j
     b ≡ getD (getD l j []) i false → b ≡ yesIn t i j
 yes-before t i j l b lj li w e = e ∙ rw (w j lj) (listed-at (yesIn t j) inputLimit i false li ∙ yes-comm t j i)
 
--- it is searched
-pub yes-found : (t : Table) (i j c r : ℕ) → i ≤ j → c ≡ candidates (t .inputs) → r ≡ pairFirst t i j → leb c r ≡ yesIn t i j
+-- where it is no pair of columns nothing differs
+pub yes-nowhere : (t : Table) (i j : ℕ) → i ≤ j → pairFirst t i j ≡ candidates (t .inputs) → true ≡ yesIn t i j
 unfolding yesIn pairDiffers
-yes-found t i j c r l ec er = rw (no-pair t j i l, le-ltb (candidates (t .inputs)) (candidates (t .inputs)) (omega arith), ← ec, ← er) (go (lt-or-ge r c))
+yes-nowhere t i j l e = rw (no-pair t j i l, e, le-ltb (candidates (t .inputs)) (candidates (t .inputs)) (omega arith))
+
+-- the test of a pair tells it
+pub yes-told : (t : Table) (i j : ℕ) (r : Bool) → i < j → j < t .inputs → Tells t i j r → r ≡ yesIn t i j
+unfolding yesIn pairDiffers
+yes-told t i j r lt lj w = rw (no-pair t j i (omega arith), le-ltb (candidates (t .inputs)) (candidates (t .inputs)) (omega arith)) (go (lt-or-ge (pairFirst t i j) (candidates (t .inputs))) r refl)
   where
-    go : (r < c) ⊎ (c ≤ r) → leb c r ≡ not (ltb r c || false)
-    go (inl h) = rw (lt-ltb r c h) (lt-leb c r h)
-    go (inr h) = rw (le-ltb r c h) (le-leb c r h)
+    go : (pairFirst t i j < candidates (t .inputs)) ⊎ (candidates (t .inputs) ≤ pairFirst t i j) → (b : Bool) → r ≡ b → b ≡ not (ltb (pairFirst t i j) (candidates (t .inputs)) || false)
+    go (inl h) true e = absurd (omega (arith, h, agreed t i j lt lj (w .sound e)))
+    go (inl h) false e = rw (lt-ltb (pairFirst t i j) (candidates (t .inputs)) h)
+    go (inr h) b e = rw (le-ltb (pairFirst t i j) (candidates (t .inputs)) h) (sym e ∙ w .whole (agrees-by t i j lt lj h))

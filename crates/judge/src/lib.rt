@@ -5,6 +5,7 @@ ghost use lib.ListN.{getD};
 ghost use Rattle.base.specs.Listed.{listed};
 ghost use Rattle.table.specs.Table.{Table};
 ghost use Rattle.planes.specs.Planes.{Low};
+ghost use Rattle.planes.specs.Pairs.{Tells};
 ghost use Rattle.pair.specs.Search.{Given};
 ghost use Rattle.judge.specs.Search.{pairFirst, witnessIn, findingIn, yesIn, squareIn};
 ghost use Rattle.judge.specs.Judge.{squareFor};
@@ -17,6 +18,22 @@ use verdict::Witness;
 pub enum Judged {
     Found(Finding),
     Refused(u8, usize),
+}
+
+// Whether the two orders of columns i and j agree for every vector.
+fn agrees(
+    s: &[[u64; memo::OFFERS]; memo::COLUMNS],
+    all: u64,
+    outs: &[u8; planes::OUTPUTS],
+    n: usize,
+    m: usize,
+    i: usize,
+    j: usize,
+) -> bool
+    requires { ⌜ (n ≤ 9) × (m ≤ 64) × (i < j) × (j < n) × Low (now outs) ⌝ }
+    ensures { λ r. ⌜ ((t : Table) → Given t (now (s .entry)) all (now (outs .entry)) n m → Tells t i j r) ⌝ }
+{
+    lanes::pair_agrees(s, outs, all, n, m, i, j)
 }
 
 // The first candidate of a pair that differs; c, the number of its candidates, where none does.
@@ -39,8 +56,11 @@ fn pair_first(
     if n <= j {
         return c;
     }
-    if lanes::pair_agrees(s, outs, all, n, m, i, j) {
-        return c;
+    // The search of so few vectors is as fast as the test.
+    if 2 < n {
+        if agrees(s, all, outs, n, m, i, j) {
+            return c;
+        }
     }
     pair::first_difference(s, all, outs, n, m, i, j)
 }
@@ -107,18 +127,23 @@ fn yes_at(
     outs: &[u8; planes::OUTPUTS],
     n: usize,
     m: usize,
-    c: usize,
     done: &[[bool; base::INPUTS]; base::INPUTS],
     i: usize,
     j: usize,
 ) -> bool
-    requires { ⌜ (n ≤ 9) × (m ≤ 64) × (c ≡ 3 ^ n * 27) × (i < 9) × (j < 9) × Low (now outs) ⌝ }
+    requires { ⌜ (n ≤ 9) × (m ≤ 64) × (i < 9) × (j < 9) × Low (now outs) ⌝ }
     ensures { λ r. ⌜ ((t : Table) → Given t (now (s .entry)) all (now (outs .entry)) n m → ((k : ℕ) → k < i → getD (now (done .entry)) k [] ≡ listed (yesIn t k) 9) → r ≡ yesIn t i j) ⌝ }
 {
     if j < i {
         return done[j][i];
     }
-    c <= pair_first(s, all, outs, n, m, c, i, j)
+    if j <= i {
+        return true;
+    }
+    if n <= j {
+        return true;
+    }
+    agrees(s, all, outs, n, m, i, j)
 }
 
 fn square_row(
@@ -127,17 +152,16 @@ fn square_row(
     outs: &[u8; planes::OUTPUTS],
     n: usize,
     m: usize,
-    c: usize,
     done: &[[bool; base::INPUTS]; base::INPUTS],
     i: usize,
 ) -> [bool; base::INPUTS]
-    requires { ⌜ (n ≤ 9) × (m ≤ 64) × (c ≡ 3 ^ n * 27) × (i < 9) × Low (now outs) ⌝ }
+    requires { ⌜ (n ≤ 9) × (m ≤ 64) × (i < 9) × Low (now outs) ⌝ }
     ensures { λ r. ⌜ ((t : Table) → Given t (now (s .entry)) all (now (outs .entry)) n m → ((k : ℕ) → k < i → getD (now (done .entry)) k [] ≡ listed (yesIn t k) 9) → r ≡ listed (yesIn t i) 9) ⌝ }
 {
     let mut row = [true; base::INPUTS];
     let mut j: usize = 0;
     while j < base::INPUTS {
-        row[j] = yes_at(s, all, outs, n, m, c, done, i, j);
+        row[j] = yes_at(s, all, outs, n, m, done, i, j);
         j += 1;
     }
     row
@@ -153,11 +177,10 @@ fn square_at(
     requires { ⌜ (n ≤ 9) × (m ≤ 64) × Low (now outs) ⌝ }
     ensures { λ r. ⌜ ((t : Table) → Given t (now (s .entry)) all (now (outs .entry)) n m → r ≡ squareIn t) ⌝ }
 {
-    let c = pair::power(n) * 27;
     let mut q = [[true; base::INPUTS]; base::INPUTS];
     let mut i: usize = 0;
     while i < base::INPUTS {
-        let row = square_row(s, all, outs, n, m, c, &q, i);
+        let row = square_row(s, all, outs, n, m, &q, i);
         q[i] = row;
         i += 1;
     }

@@ -7,16 +7,15 @@ use Rattle.base.proofs.Listed.{Filled, filled-none, filled-more, filled-all}
 use Rattle.table.specs.Table.{Table}
 use Rattle.pair.specs.Search.{Given}
 use Rattle.judge.specs.Search.{yesIn, squareIn}
-use Rattle.judge.proofs.Findings.{vectors-low}
 use Rattle.judge.proofs.Pairwise.{filled-at}
 use Rattle.judge.proofs.square_at.Statement.{statement}
 use Rattle.judge.proofs.square_at.Tie as tie
 
 abbrev Inv-loop : tie.InvT-loop
-Inv-loop s all outs n m c q₀ i₀ q i = (t : Table) → Given t s all outs n m → Filled (λ (k : ℕ). listed (yesIn t k) 9) 9 q i
+Inv-loop s all outs n m q₀ i₀ q i = (t : Table) → Given t s all outs n m → Filled (λ (k : ℕ). listed (yesIn t k) 9) 9 q i
 
 abbrev μ-loop : tie.MeasureT-loop
-μ-loop s all outs n m c q₀ i₀ q i = 9 - i
+μ-loop s all outs n m q₀ i₀ q i = 9 - i
 
 pub square-at-spec : {M : Type 1} → statement M
 unfolding squareIn
@@ -25,10 +24,8 @@ square-at-spec =
     (tie.spec
     Inv-loop
     μ-loop
-    (λ c κs. omega arith)
-    (λ c. omega (arith, vectors-low _ _ (c .before .pre .0) (c .power .ensures)))
     (λ c. λ t G. filled-none _ 9 _)
-    (λ c κs. let s = c .before .before .before in (omega arith, omega arith, rw (s .power .ensures), omega arith, s .before .pre .2))
+    (λ c κs. (omega arith, omega arith, omega arith, c .before .before .before .pre .2))
     (λ c. omega arith)
     (λ c. search needs)
     (λ c. omega arith)

@@ -12,11 +12,11 @@ use Rattle.judge.proofs.square_row.Statement.{statement}
 use Rattle.judge.proofs.square_row.Tie as tie
 
 abbrev Inv-loop : tie.InvT-loop
-Inv-loop s all outs n m c done i row₀ j₀ row j =
+Inv-loop s all outs n m done i row₀ j₀ row j =
     (t : Table) → Given t s all outs n m → ((k : ℕ) → k < i → getD done k [] ≡ listed (yesIn t k) 9) → Filled (yesIn t i) 9 row j
 
 abbrev μ-loop : tie.MeasureT-loop
-μ-loop s all outs n m c done i row₀ j₀ row j = 9 - j
+μ-loop s all outs n m done i row₀ j₀ row j = 9 - j
 
 pub square-row-spec : {M : Type 1} → statement M
 square-row-spec =
@@ -25,7 +25,7 @@ square-row-spec =
     Inv-loop
     μ-loop
     (λ c. λ t G w. filled-none _ 9 _)
-    (λ c κs. let s = c .before .before in (omega arith, omega arith, s .pre .2, omega arith, omega arith, s .pre .4))
+    (λ c κs. let s = c .before .before in (omega arith, omega arith, omega arith, omega arith, s .pre .3))
     (λ c. omega arith)
     (λ c. omega arith)
     (λ c. omega arith)

@@ -1,7 +1,8 @@
-use mathlib.Core.Path.{refl, _∙_}
+use mathlib.Core.Path.{refl}
 use native.Mathlib.Omega.{arith}
 use borrow.Author.Needs.{needs}
-use Rattle.judge.proofs.Pairwise.{yes-before, yes-found}
+use Rattle.judge.proofs.Findings.{no-pair, past-pair}
+use Rattle.judge.proofs.Pairwise.{yes-before, yes-nowhere, yes-told}
 use Rattle.judge.proofs.yes_at.Statement.{statement}
 use Rattle.judge.proofs.yes_at.Tie as tie
 
@@ -13,5 +14,7 @@ yes-at-spec =
     (λ c. search needs)
     (λ c. search needs)
     (λ c. λ t G w. yes-before t _ _ (c .before .before .args .done .now) _ (c .before .if1 .taken) (omega arith) w refl)
-    (λ c κs. (omega arith, omega arith, c .before .pre .2, omega arith, c .before .pre .5))
-    (λ c. λ t G w. yes-found t _ _ _ _ (omega arith) (c .before .before .pre .2 ∙ rw (G .inputs-are)) (c .pair-first .ensures .0 t G)))
+    (λ c. λ t G w. yes-nowhere t _ _ (omega arith) (no-pair t _ _ (omega arith)))
+    (λ c. λ t G w. yes-nowhere t _ _ (omega arith) (past-pair t _ _ (omega (arith, G .inputs-are))))
+    (λ c κs. (omega arith, omega arith, omega arith, omega arith, c .before .before .before .pre .4))
+    (λ c. λ t G w. yes-told t _ _ _ (omega arith) (omega (arith, G .inputs-are)) (c .agrees .ensures t G)))
