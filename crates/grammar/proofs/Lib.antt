@@ -4,6 +4,6 @@ pub mod Gives
 pub mod Prints
 pub mod Exactly
 pub mod Enough
-pub mod Flags
+pub mod Behind
 pub mod Moves
 pub mod Tests

@@ -2,7 +2,7 @@ use lib.ListN.{set}
 use mathlib.Core.List.{[], _∷_, _++_}
 use mathlib.Core.Bool.{not, _&&_}
 use Rattle.reading.proofs.Columns.{columns-more, row-is}
-use Rattle.grammar.proofs.Flags.{behind, behind-none, behind-more}
+use Rattle.grammar.proofs.Behind.{behind, behind-none, behind-more}
 use Rattle.grammar.specs.Rows.{columns}
 use Rattle.table.specs.Places.{inputsAt}
 use Rattle.base.specs.Limits.{inputLimit}
