@@ -1,28 +1,18 @@
 -- The lanes of a row. Assumes nothing.
 use Prim.Native.Nat.{ℕ, zero, suc, _+_, _-_, _*_, _/_, _%_, _<_, _≤_}
-use mathlib.Core.Path.{_≡_, refl, sym, ap, _∙_}
-use mathlib.Core.Bool.{Bool, true, false, cond, _&&_, _||_, not, and-false}
+use mathlib.Core.Path.{_≡_, refl, ap, _∙_}
+use mathlib.Core.Bool.{Bool, true, false, cond}
 use mathlib.Core.List.{List}
 use native.Mathlib.Omega.{arith}
 use lib.Bits.{bitAnd, bitOr}
 use lib.Dec.{eqb}
 use Rattle.base.specs.Search.{every}
-use Rattle.base.proofs.Bools.{clash}
-use Rattle.base.proofs.Search.{every-at}
 use Rattle.memo.specs.Rows.{cellAt}
 use Rattle.planes.specs.Words.{bit}
 use Rattle.lanes.specs.Columns.{laneAt, lanesIn, LaneRow}
-use Rattle.planes.proofs.Bits.{bit-and, bit-or, bit-zero}
+use Rattle.planes.proofs.Bits.{bit-and}
 use Rattle.planes.proofs.Planes.{all-lanes}
-use Rattle.planes.proofs.Composed.{picks}
-
-word-bit : (b : Bool) (p l : ℕ) → bit (cond b p 0) l ≡ (bit p l && b)
-word-bit true p l = go (bit p l)
-  where
-    go : (x : Bool) → x ≡ (x && true)
-    go true = refl
-    go false = refl
-word-bit false p l = bit-zero l ∙ sym (and-false (bit p l))
+use Rattle.planes.proofs.Patterns.{digit-words, same, pattern}
 
 -- the lanes of one column, where its value in lane l is d
 in-lanes : (s : List (List ℕ)) (t r p q w d l : ℕ) → l < 27 → d < 3 → bit p l ≡ eqb d 0 → bit q l ≡ eqb d 1 → bit w l ≡ eqb d 2 →
@@ -35,23 +25,7 @@ in-lanes s t r p q w d l lt ld ep eq ew = go (eqb t 0)
 
     go : (e : Bool) → bit (cond e 134217727 (bitOr (cond (a 0) p 0) (bitOr (cond (a 1) q 0) (cond (a 2) w 0)))) l ≡ cond e true (a d)
     go true = all-lanes l lt
-    go false =
-        bit-or (cond (a 0) p 0) (bitOr (cond (a 1) q 0) (cond (a 2) w 0)) l
-        ∙ rw (bit-or (cond (a 1) q 0) (cond (a 2) w 0) l, word-bit (a 0) p l, word-bit (a 1) q l, word-bit (a 2) w l, ep, eq, ew) (picks d a ld)
-
--- the words of the lanes that have a digit
-same : Bool → Bool → Bool
-same a b = cond a b (not b)
-
-same-is : (a b : Bool) → same a b ≡ true → a ≡ b
-unfolding same
-same-is true true e = refl
-same-is true false e = clash (sym e)
-same-is false true e = clash (sym e)
-same-is false false e = refl
-
-pattern : (k d : ℕ) (f : ℕ → ℕ) → every 27 (λ (l : ℕ). same (bit k l) (eqb (f l) d)) ≡ true → (l : ℕ) → l < 27 → bit k l ≡ eqb (f l) d
-pattern k d f e l h = same-is (bit k l) (eqb (f l) d) (every-at (λ (l : ℕ). same (bit k l) (eqb (f l) d)) 27 l e h)
+    go false = digit-words a p q w d l ld ep eq ew
 
 pub lane-row-by : (s : List (List ℕ)) (t u v r a b c : ℕ) → a ≡ lanesIn s t r 19173961 38347922 76695844 → b ≡ lanesIn s u r 1838599 14708792 117670336 → c ≡ lanesIn s v r 511 261632 133955584 →
     LaneRow s t u v r (bitAnd a (bitAnd b c))

@@ -4,4 +4,5 @@ pub mod Each
 pub mod Planes
 pub mod Entered
 pub mod Composed
+pub mod Patterns
 pub mod Orders

@@ -12,7 +12,7 @@ pub const LANES: u32 = 134217727;
 pub const OUTPUTS: usize = base::ROWS * 3;
 
 // The lanes that are open get the answers of the rows of a set: the first three words have the lanes with each answer, the last those with none.
-fn spread(
+pub fn spread(
     g: &[u32; base::ROWS],
     outs: &[u8; OUTPUTS],
     set: u64,
@@ -42,7 +42,7 @@ fn spread(
 }
 
 // The same, where a lane that has no answer at the end gets x.
-fn closed(
+pub fn closed(
     g: &[u32; base::ROWS],
     outs: &[u8; OUTPUTS],
     set: u64,

@@ -1,0 +1,4 @@
+pub mod Shifts
+pub mod Weights
+pub mod Matching
+pub mod Stepping

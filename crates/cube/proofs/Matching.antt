@@ -1,0 +1,2 @@
+-- The rows that match in a lane. Assumes nothing.
+use Prim.Native.Nat.{ℕ}

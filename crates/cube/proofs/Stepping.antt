@@ -1,0 +1,2 @@
+-- The steps of one column. Assumes nothing.
+use Prim.Native.Nat.{ℕ}
