@@ -27,7 +27,7 @@ use Rattle.planes.proofs.Orders.{by-change}
 use Rattle.plain.proofs.Sets.{both-in}
 
 -- a test that each member passes, and one that none does
-stays : (a b : ℕ) → ((k : ℕ) → bit a k ≡ true → bit b k ≡ true) → bitAnd a b ≡ a
+pub stays : (a b : ℕ) → ((k : ℕ) → bit a k ≡ true → bit b k ≡ true) → bitAnd a b ≡ a
 stays a b h = bit-ext (bitAnd a b) a (λ k. bit-and a b k ∙ go (bit a k) (bit b k) (h k))
   where
     go : (x y : Bool) → (x ≡ true → y ≡ true) → (x && y) ≡ x

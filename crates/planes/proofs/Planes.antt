@@ -69,7 +69,7 @@ pub closed-by : (outs g : List ℕ) (o set : ℕ) (p q : List ℕ) → Spread ou
 closed-by outs g o set p q s = record { told = λ f t. closed-told q (answered outs g o set f) (s .told f t) }
 
 -- the order of the tests does not matter
-and-swap : (a b c : Bool) → ((a && b) && c) ≡ ((a && c) && b)
+pub and-swap : (a b c : Bool) → ((a && b) && c) ≡ ((a && c) && b)
 and-swap true true true = refl
 and-swap true true false = refl
 and-swap true false true = refl

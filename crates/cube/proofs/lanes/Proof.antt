@@ -1,46 +1,16 @@
+use Prim.Native.Nat.{_-_, _≤_}
+use native.Mathlib.Omega.{arith}
+use borrow.Author.Needs.{needs}
+use Rattle.planes.proofs.Each.{Each, each-none, each-more, each-all}
+use Rattle.cube.specs.Lanes.{RowLanes}
 use Rattle.cube.proofs.lanes.Statement.{statement}
 use Rattle.cube.proofs.lanes.Tie as tie
-use Rattle.cube.proofs.lanes.Reads as reads
-use Rattle.cube.proofs.lanes.Lts as lts
-use Rattle.cube.proofs.row_lanes.Reads as row-lanes-reads
 
 abbrev Inv-loop : tie.InvT-loop
-Inv-loop s n m i c g₀ r₀ g r = ?
+Inv-loop s n m i c g₀ r₀ g r = (r ≤ m) × Each 0 (RowLanes s n i c) 64 g r
 
 abbrev μ-loop : tie.MeasureT-loop
-μ-loop s n m i c g₀ r₀ g r = ?
-
--- src/lib.rt:106:5
-loop-holds : tie.Need-loop-holds Inv-loop μ-loop
-loop-holds c = ?
-
--- src/lib.rt:107:16
-row-lanes-requires : tie.Need-row-lanes-requires Inv-loop μ-loop
-row-lanes-requires c κs = ?
-
--- src/lib.rt:107:9
-mul-g : tie.Need-mul-g Inv-loop μ-loop
-mul-g c = ?
-
--- src/lib.rt:107:9
-array-write-g : tie.Need-array-write-g Inv-loop μ-loop
-array-write-g c = ?
-
--- src/lib.rt:108:9
-add-r : tie.Need-add-r Inv-loop μ-loop
-add-r c = ?
-
--- src/lib.rt:106:5
-loop-less : tie.Need-loop-less Inv-loop μ-loop
-loop-less c = ?
-
--- src/lib.rt:106:5
-loop-again : tie.Need-loop-again Inv-loop μ-loop
-loop-again c = ?
-
--- src/lib.rt:94:1
-returns : tie.Need-returns Inv-loop μ-loop
-returns c = ?
+μ-loop s n m i c g₀ r₀ g r = m - r
 
 pub lanes-spec : {M : Type 1} → statement M
 lanes-spec =
@@ -48,11 +18,11 @@ lanes-spec =
     (tie.spec
     Inv-loop
     μ-loop
-    loop-holds
-    row-lanes-requires
-    mul-g
-    array-write-g
-    add-r
-    loop-less
-    loop-again
-    returns)
+    (λ c. (omega arith, each-none 0 _ 64 _))
+    (λ c κs. search needs)
+    (λ c. omega arith)
+    (λ c. omega (arith, c .before .before .loop .inv .1 .long))
+    (λ c. omega arith)
+    (λ c. omega arith)
+    (λ c. (omega arith, each-more 0 _ 64 _ _ _ (omega arith) (c .row-lanes .ensures) (c .before .before .loop .inv .1)))
+    (λ c. record { row = each-all 0 _ 64 _ _ _ (c .loop-test .left) (c .before .loop .inv .1) }))

@@ -1,62 +1,26 @@
+use native.Mathlib.Omega.{arith}
 use borrow.Author.Needs.{needs}
+use Rattle.cube.specs.Lanes.{one, three, nine}
+use Rattle.cube.proofs.Matching.{two-columns, three-columns}
 use Rattle.cube.proofs.row_lanes.Statement.{statement}
 use Rattle.cube.proofs.row_lanes.Tie as tie
-use Rattle.cube.proofs.row_lanes.Reads as reads
-use Rattle.cube.proofs.row_lanes.Lts as lts
-use Rattle.cube.proofs.lanes_in.Reads as lanes-in-reads
-use Rattle.cube.proofs.offer.Reads as offer-reads
-
--- src/lib.rt:82:13
-sub-a : tie.Need-sub-a
-sub-a c = search needs
-
--- src/lib.rt:83:13
-sub-b : tie.Need-sub-b
-sub-b c = search needs
-
--- src/lib.rt:84:31
-offer-requires : tie.Need-offer-requires
-offer-requires c κs = search needs
-
--- src/lib.rt:84:9
-lanes-in-requires : tie.Need-lanes-in-requires
-lanes-in-requires c κs = ?
-
--- src/lib.rt:85:31
-offer-requires-2 : tie.Need-offer-requires-2
-offer-requires-2 c κs = search needs
-
--- src/lib.rt:85:9
-lanes-in-requires-2 : tie.Need-lanes-in-requires-2
-lanes-in-requires-2 c κs = ?
-
--- src/lib.rt:87:9
-returns : tie.Need-returns
-returns c = ?
-
--- src/lib.rt:89:31
-offer-requires-3 : tie.Need-offer-requires-3
-offer-requires-3 c κs = search needs
-
--- src/lib.rt:89:9
-lanes-in-requires-3 : tie.Need-lanes-in-requires-3
-lanes-in-requires-3 c κs = ?
-
--- src/lib.rt:72:1
-returns-2 : tie.Need-returns-2
-returns-2 c = ?
 
 pub row-lanes-spec : {M : Type 1} → statement M
 row-lanes-spec =
     tie.close
     (tie.spec
-    sub-a
-    sub-b
-    offer-requires
-    lanes-in-requires
-    offer-requires-2
-    lanes-in-requires-2
-    returns
-    offer-requires-3
-    lanes-in-requires-3
-    returns-2)
+    (λ c. search needs)
+    (λ c. search needs)
+    (λ c κs. search needs)
+    (λ c κs. (omega arith, one, omega (arith, c .offer .ensures), omega arith))
+    (λ c κs. search needs)
+    (λ c κs. (omega arith, three, omega (arith, c .offer2 .ensures), omega arith))
+    (λ c.
+    let d = c .before .before .before in
+    two-columns _ _ _ _ _ _ _ _ _ (omega arith) (d .before .offer .ensures .0) (c .before .before .offer2 .ensures .0) (d .lanes-in .ensures) (c .before .lanes-in2 .ensures))
+    (λ c κs. search needs)
+    (λ c κs. (omega arith, nine, omega (arith, c .offer3 .ensures), omega arith))
+    (λ c.
+    let e = c .before .before .before in
+    let d = e .before .before in
+    three-columns _ _ _ _ _ _ _ _ _ _ _ (omega arith) (d .before .offer .ensures .0) (e .before .offer2 .ensures .0) (c .before .offer3 .ensures .0) (d .lanes-in .ensures) (e .lanes-in2 .ensures) (c .lanes-in3 .ensures)))
