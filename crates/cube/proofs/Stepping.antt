@@ -176,11 +176,12 @@ module _ (s : List (List ℕ)) (outs : List ℕ) (all n m i a o w z : ℕ) (g : 
         (chosen (eqb a digit) o (answerIn outs o (bitAnd here (cellAt s i digit))) (answerIn outs o (bitAnd here (cellAt s i (3 + (a * 3 + digit))))) lo
         ∙ ap (λ (x : ℕ). cond (eqb a digit) o x) (sym (out-rank t s outs n i i (d .given i i li li) o lo (restOf s all i n l) (cellAt s i digit) (cellAt s i (3 + (a * 3 + digit))))))
 
-  pub stepped-by : (e : ℕ) → e ≡ a * 3 + o → Step outs g o (bitAnd (bitAnd all (cellAt s n o)) edges) still (getD lev o []) p → Stepped s outs all n m i e p
-  stepped-by e q h = record {
+  pub stepped-by : (e x : ℕ) → e ≡ a * 3 + o → x ≡ edges → Step outs g o (bitAnd (bitAnd all (cellAt s n o)) x) still (getD lev o []) p → Stepped s outs all n m i e p
+  stepped-by e x q ex hx = record {
     told = λ t d.
         let ea : e / 3 ≡ a = omega arith in
         let eo : e % 3 ≡ o = omega arith in
+        let h = rw ex at hx in
         rw (ea, eo) (told-in 3 p _ _ (λ l lt. step-is t d l lt) (h .told _ (hl .at t d i o li lo)));
   }
 

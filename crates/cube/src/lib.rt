@@ -2,7 +2,7 @@ ghost use mathlib.Core.Path.{_≡_};
 ghost use mathlib.Core.Bool.{cond};
 ghost use Prim.Native.Nat.{ℕ, suc, _+_, _-_, _^_, _<_, _≤_};
 ghost use mathlib.Core.List.{[], _∷_};
-ghost use lib.Bits.{bitAnd};
+ghost use lib.Bits.{bitAnd, bitOr};
 ghost use lib.Dec.{eqb};
 ghost use lib.ListN.{length, getD};
 ghost use Rattle.table.specs.Table.{Table};
@@ -153,6 +153,14 @@ fn step_at(
     planes::closed(g, outs, set, o, q)
 }
 
+// The rows that match in column i one of the three changes from number c on.
+fn edges_in(s: &[[u64; memo::OFFERS]; memo::COLUMNS], i: usize, c: usize) -> u64
+    requires { ⌜ (i < 10) × (c < 10) ⌝ }
+    ensures { λ r. ⌜ r ≡ bitOr (cellAt (now (s .entry)) i c) (bitOr (cellAt (now (s .entry)) i (c + 1)) (cellAt (now (s .entry)) i (c + 2))) ⌝ }
+{
+    s[i][c] | (s[i][c + 1] | s[i][c + 2])
+}
+
 // The steps of column i, for each value that it comes from and each old output.
 fn steps(
     lev: &[[u32; 4]; 3],
@@ -173,7 +181,7 @@ fn steps(
     while a < 3 {
         let c = 3 + a * 3;
         let g = lanes(s, n, m, i, c);
-        let edges = s[i][c] | (s[i][c + 1] | s[i][c + 2]);
+        let edges = edges_in(s, i, c);
         let still = z << (w * a);
         let p = step_at(&g, outs, lev, s, all, n, edges, still, 0);
         f[a * 3] = p;
