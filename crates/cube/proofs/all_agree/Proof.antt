@@ -1,42 +1,21 @@
+use Prim.Native.Nat.{ℕ, _-_, _/_, _%_, _≤_}
+use mathlib.Core.Path.{_≡_, sym, _∙_}
+use mathlib.Core.Bool.{true}
+use native.Mathlib.Omega.{arith}
+use borrow.Author.Needs.{needs}
+use borrow.Author.Tests.{eq-eqb, ne-eqb}
+use Rattle.base.specs.Search.{every}
+use Rattle.base.proofs.Search.{every-none, every-more, every-fails}
+use Rattle.cube.specs.Steps.{Tell, sameIn}
 use Rattle.cube.proofs.all_agree.Statement.{statement}
 use Rattle.cube.proofs.all_agree.Tie as tie
-use Rattle.cube.proofs.all_agree.Reads as reads
-use Rattle.cube.proofs.all_agree.Lts as lts
-use Rattle.cube.proofs.differ.Reads as differ-reads
 
 abbrev Inv-loop : tie.InvT-loop
-Inv-loop f h v w k₀ k = ?
+Inv-loop p q v w k₀ k =
+    (k ≤ 27) × ((f h : ℕ → ℕ → ℕ → ℕ) → Tell p f → Tell q h → every k (λ (k : ℕ). every 27 (sameIn f h v w (k / 9) (k / 3 % 3) (k % 3))) ≡ true)
 
 abbrev μ-loop : tie.MeasureT-loop
-μ-loop f h v w k₀ k = ?
-
--- src/lib.rt:244:5
-loop-holds : tie.Need-loop-holds Inv-loop μ-loop
-loop-holds c = ?
-
--- src/lib.rt:245:12
-differ-requires : tie.Need-differ-requires Inv-loop μ-loop
-differ-requires c κs = ?
-
--- src/lib.rt:246:13
-returns : tie.Need-returns Inv-loop μ-loop
-returns c = ?
-
--- src/lib.rt:248:9
-add-k : tie.Need-add-k Inv-loop μ-loop
-add-k c = ?
-
--- src/lib.rt:244:5
-loop-less : tie.Need-loop-less Inv-loop μ-loop
-loop-less c = ?
-
--- src/lib.rt:244:5
-loop-again : tie.Need-loop-again Inv-loop μ-loop
-loop-again c = ?
-
--- src/lib.rt:239:1
-returns-2 : tie.Need-returns-2 Inv-loop μ-loop
-returns-2 c = ?
+μ-loop p q v w k₀ k = 27 - k
 
 pub all-agree-spec : {M : Type 1} → statement M
 all-agree-spec =
@@ -44,10 +23,10 @@ all-agree-spec =
     (tie.spec
     Inv-loop
     μ-loop
-    loop-holds
-    differ-requires
-    returns
-    add-k
-    loop-less
-    loop-again
-    returns-2)
+    (λ c. (omega arith, λ f h tf th. every-none _))
+    (λ c κs. search needs)
+    (λ c. record { is = λ f h tf th. sym (every-fails _ 27 _ (c .before .before .loop-test .taken) (sym (c .before .differ .ensures .at f h tf th) ∙ ne-eqb _ _ (c .if1 .taken))) })
+    (λ c. omega arith)
+    (λ c. omega arith)
+    (λ c. (omega arith, λ f h tf th. every-more _ _ (c .before .before .before .loop .inv .1 f h tf th) (sym (c .before .differ .ensures .at f h tf th) ∙ eq-eqb _ _ (c .if1 .left))))
+    (λ c. record { is = λ f h tf th. let e : c .before .loop .k ≡ 27 = omega arith in sym (rw e at (c .before .loop .inv .1 f h tf th)) }))
