@@ -1,14 +1,14 @@
 -- The two orders compared in every lane at once. Assumes nothing.
 use Prim.Native.Nat.{ℕ, zero, suc, _+_, _*_, _<_, _≤_}
 use mathlib.Core.Path.{_≡_, refl, sym, ap, _∙_}
-use mathlib.Core.Bool.{Bool, true, false, _&&_, _||_, not, xor, and-false}
+use mathlib.Core.Bool.{Bool, true, false, _&&_, _||_, not, xor, and-true, and-false}
 use mathlib.Core.List.{List, [], _∷_}
 use mathlib.Core.Logic.{⊎-elim}
 use native.Mathlib.Omega.{arith}
 use lib.Bits.{bitAnd, bitOr, bitXor}
 use lib.Dec.{eqb}
 use lib.ListN.{getD}
-use borrow.Author.Tests.{eqb-true, eq-eqb, ne-eqb, not-true}
+use borrow.Author.Tests.{eq-eqb, ne-eqb, not-true}
 use Rattle.base.specs.Search.{every}
 use Rattle.base.proofs.Bools.{clash, lt-or-ge}
 use Rattle.base.proofs.Search.{every-at, every-of, every-same}
@@ -28,11 +28,7 @@ unfolding maskOf maskFrom
 no-more l h = bit-past (λ (k : ℕ). true) 27 l h
 
 in-lane : (x l : ℕ) → l < 27 → bit (bitAnd x 134217727) l ≡ bit x l
-in-lane x l h = bit-and x 134217727 l ∙ rw (all-lanes l h) (go (bit x l))
-  where
-    go : (b : Bool) → (b && true) ≡ b
-    go true = refl
-    go false = refl
+in-lane x l h = bit-and x 134217727 l ∙ rw (all-lanes l h) (and-true (bit x l))
 
 none-in : (x : ℕ) → eqb (bitAnd x 134217727) 0 ≡ every 27 (λ (l : ℕ). not (bit x l))
 none-in x = go (every 27 (λ (l : ℕ). not (bit x l))) refl

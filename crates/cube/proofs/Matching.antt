@@ -1,14 +1,13 @@
 -- The rows that match in a lane. Assumes nothing.
-use Prim.Native.Nat.{ℕ, zero, suc, _+_, _-_, _*_, _/_, _%_, _<_, _≤_}
+use Prim.Native.Nat.{ℕ, zero, suc, _+_, _-_, _/_, _%_, _<_, _≤_}
 use mathlib.Core.Path.{_≡_, refl, sym, ap, _∙_}
-use mathlib.Core.Bool.{Bool, true, false, cond, _&&_, and-false}
+use mathlib.Core.Bool.{Bool, true, false, cond, _&&_, and-true, and-assoc}
 use mathlib.Core.List.{List}
 use mathlib.Core.Logic.{⊎-elim}
 use native.Mathlib.Nat.{eq-or-lt-of-le, div-one, zero-add}
 use native.Mathlib.Omega.{arith}
 use lib.Bits.{bitAnd}
 use lib.Dec.{eqb}
-use lib.ListN.{getD}
 use borrow.Author.Tests.{eq-eqb, ne-eqb}
 use Rattle.base.proofs.Bools.{lt-or-ge}
 use Rattle.orders.proofs.Digits.{digitOf}
@@ -40,18 +39,10 @@ three-columns s n i c r x y z p q v en ex ey ez hp hq hv = record {
 
 -- ---- the same as sets
 
-and-assoc : (a b c : Bool) → ((a && b) && c) ≡ (a && (b && c))
-and-assoc true b c = refl
-and-assoc false b c = refl
-
-and-true : (x : Bool) → x ≡ (x && true)
-and-true true = refl
-and-true false = refl
-
 module _ (s : List (List ℕ)) (all i c r : ℕ) where
   below : (k v : ℕ) → k ≤ i → bit (restOf s all i k v) r ≡ (bit all r && rowMatches s i c r k v)
   unfolding restOf rowMatches
-  below zero v h = and-true (bit all r)
+  below zero v h = sym (and-true (bit all r))
   below (suc k) v h =
       rw (ne-eqb k i (λ e. omega arith))
       (bit-and (restOf s all i k (v / 3)) (cellAt s k (v % 3)) r

@@ -1,7 +1,7 @@
 -- The steps of one column, in words. Assumes nothing.
 use Prim.Native.Nat.{ℕ, zero, suc, _+_, _-_, _*_, _/_, _%_, _^_, _<_, _≤_}
 use mathlib.Core.Path.{_≡_, refl, sym, ap, _∙_}
-use mathlib.Core.Bool.{Bool, true, false, cond, _&&_, _||_, xor, and-false, or-true, or-false}
+use mathlib.Core.Bool.{Bool, true, false, cond, _&&_, _||_, xor, and-true, and-false, or-true, or-false}
 use mathlib.Core.List.{List, [], _∷_}
 use native.Mathlib.Nat.{zero-add, add-zero}
 use native.Mathlib.Omega.{arith}
@@ -15,14 +15,14 @@ use Rattle.orders.proofs.Digits.{digitOf, digit-is, digit-low}
 use Rattle.evaluation.specs.Step.{answerOr}
 use Rattle.memo.specs.Rows.{allRows, cellAt, restOf, outBy, entryOf}
 use Rattle.planes.specs.Words.{bit, Told}
-use Rattle.planes.specs.Planes.{laneRows, answerIn, answered, orX, Spread, Closed, Given}
+use Rattle.planes.specs.Planes.{laneRows, answerIn, answered, orX, Spread, Closed}
 use Rattle.planes.proofs.Bits.{bit-and, bit-or, bit-xor, bit-past}
 use Rattle.planes.proofs.Planes.{all-lanes, level-told, swap}
 use Rattle.planes.proofs.Entered.{out-rank, entry-low}
 use Rattle.plain.proofs.Sets.{both-in}
 use Rattle.plain.proofs.Alike as alike
-use Rattle.cube.specs.Lanes.{Zeros, Lanes, RowLanes}
-use Rattle.cube.specs.Steps.{Facts, Levels, Stays, Step, Tell, stepIn, Steps}
+use Rattle.cube.specs.Lanes.{Zeros, Lanes}
+use Rattle.cube.specs.Steps.{Facts, Levels, Stays, Step, stepIn, Steps}
 use Rattle.cube.proofs.Shifts.{cut-bit}
 use Rattle.cube.proofs.Matching.{any-column, lane-set}
 
@@ -81,10 +81,6 @@ module _ (p : List ℕ) (o still : ℕ) (lo : o < 3) where
     cleared-at (suc (suc zero)) l lm lt = plane 2 l lm lt
     cleared-at (suc (suc (suc zero))) l lm lt = plane 3 l lm lt
     cleared-at (suc (suc (suc (suc m)))) l lm lt = absurd (omega arith)
-
-    and-true : (x : Bool) → (x && true) ≡ x
-    and-true true = refl
-    and-true false = refl
 
     on-plane : (q : ℕ) (b : Bool) → ((eqb q o && xor b true) || b) ≡ eqb (cond b o q) o
     unfolding xor

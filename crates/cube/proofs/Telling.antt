@@ -14,12 +14,12 @@ use Rattle.base.specs.Search.{every}
 use Rattle.base.proofs.Search.{every-at, every-of}
 use Rattle.table.specs.Table.{Table}
 use Rattle.orders.proofs.Digits.{digitOf, putDigit, digit-is, digit-low, digit-le, put-is, put-lt}
-use Rattle.memo.specs.Rows.{allRows, cells, cellAt, restOf, entryOf}
+use Rattle.memo.specs.Rows.{allRows, cellAt, restOf}
 use Rattle.memo.specs.Pair.{othersOf, firstThen, secondThen}
 use Rattle.memo.proofs.Others.{others-comm, others-put, rest-others, digit-same, digit-other}
 use Rattle.planes.specs.Words.{bit}
 use Rattle.planes.specs.Planes.{Agree, Given}
-use Rattle.planes.specs.Pairs.{PairAgrees, Tells}
+use Rattle.planes.specs.Pairs.{Tells}
 use Rattle.planes.proofs.Planes.{last-of}
 use Rattle.plain.specs.Plain.{Only, Plain}
 use Rattle.plain.proofs.Sets.{both-in}

@@ -1,7 +1,7 @@
 -- The digits of a lane. Assumes nothing.
 use Prim.Native.Nat.{ℕ, zero, suc, _+_, _-_, _*_, _/_, _%_, _^_, _<_, _≤_}
 use mathlib.Core.Path.{_≡_, refl, sym, ap, _∙_}
-use mathlib.Core.Bool.{Bool, true, false, cond, _&&_, _||_}
+use mathlib.Core.Bool.{Bool, true, cond, _&&_}
 use mathlib.Core.List.{List, [], _∷_}
 use mathlib.Core.Logic.{_≢_}
 use native.Mathlib.Nat.{mul-one, mul-zero, add-zero}
@@ -12,7 +12,7 @@ use lib.ListN.{getD}
 use Rattle.base.specs.Search.{every}
 use Rattle.memo.specs.Rows.{cellAt}
 use Rattle.planes.specs.Words.{bit, Told}
-use Rattle.planes.proofs.Bits.{bit-and, bit-or}
+use Rattle.planes.proofs.Bits.{bit-or}
 use Rattle.planes.proofs.Composed.{picks}
 use Rattle.planes.proofs.Patterns.{digit-words, same, pattern}
 use Rattle.cube.specs.Lanes.{Weight, one, three, nine, Zeros, putBy, Copied, Moved, ColumnLanes}

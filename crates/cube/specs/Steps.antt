@@ -11,7 +11,7 @@ use Rattle.table.specs.Table.{Table}
 use Rattle.orders.proofs.Digits.{digitOf}
 use Rattle.memo.specs.Rows.{allRows, cellAt, restOf, entryOf}
 use Rattle.planes.specs.Words.{bit, Told}
-use Rattle.planes.specs.Planes.{Low, answerIn, answered, orX, Given}
+use Rattle.planes.specs.Planes.{answerIn, answered, orX, Given}
 use Rattle.cube.specs.Lanes.{putBy}
 
 -- s and outs are the masks and outputs of table t, which has n inputs and the m rows `all`

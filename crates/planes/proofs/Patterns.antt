@@ -1,7 +1,7 @@
 -- Words whose lanes are those with a digit. Assumes nothing.
 use Prim.Native.Nat.{ℕ, _<_}
 use mathlib.Core.Path.{_≡_, refl, sym, _∙_}
-use mathlib.Core.Bool.{Bool, true, false, cond, _&&_, _||_, not, and-false}
+use mathlib.Core.Bool.{Bool, true, false, cond, _&&_, not, and-true, and-false}
 use lib.Bits.{bitOr}
 use lib.Dec.{eqb}
 use Rattle.base.specs.Search.{every}
@@ -12,11 +12,7 @@ use Rattle.planes.proofs.Bits.{bit-or, bit-zero}
 use Rattle.planes.proofs.Composed.{picks}
 
 word-bit : (b : Bool) (p l : ℕ) → bit (cond b p 0) l ≡ (bit p l && b)
-word-bit true p l = go (bit p l)
-  where
-    go : (x : Bool) → x ≡ (x && true)
-    go true = refl
-    go false = refl
+word-bit true p l = sym (and-true (bit p l))
 word-bit false p l = bit-zero l ∙ sym (and-false (bit p l))
 
 -- of three words the one that has lane l, whose digit is d, tells whether the lane is in all of them

@@ -1,4 +1,3 @@
-use native.Mathlib.Omega.{arith}
 use borrow.Author.Needs.{needs}
 use Rattle.cube.proofs.Comparing.{differ-by}
 use Rattle.cube.proofs.differ.Statement.{statement}

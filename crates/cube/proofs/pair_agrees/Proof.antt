@@ -1,4 +1,3 @@
-use native.Mathlib.Omega.{arith}
 use borrow.Author.Needs.{needs}
 use Rattle.cube.proofs.Telling.{plain-tells, tells-by}
 use Rattle.cube.proofs.pair_agrees.Statement.{statement}
