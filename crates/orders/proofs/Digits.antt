@@ -3,7 +3,7 @@ use Prim.Native.Nat.{ℕ, zero, suc, _+_, _-_, _*_, _/_, _%_, _^_, _<_, _≤_}
 use mathlib.Core.Path.{_≡_, refl, sym, ap, _∙_}
 use mathlib.Core.Logic.{⊎-elim}
 use mathlib.Core.List.{List, [], _∷_, _++_}
-use native.Mathlib.Nat.{pow-suc, mul-comm, div-div-eq-div-mul, div-one, eq-or-lt-of-le, pow-le-pow-right}
+use native.Mathlib.Nat.{pow-suc, mul-comm, mul-assoc, div-div-eq-div-mul, div-one, eq-or-lt-of-le, pow-le-pow-right}
 use native.Mathlib.Omega.{arith}
 use lib.Dec.{lit<}
 use lib.ListN.{length, getD, set, List·getD-append}
@@ -37,6 +37,21 @@ power-pos (suc m) = rw (pow-suc 3 m) (omega (arith, power-pos m))
 
 pub power-le : (m k : ℕ) → m ≤ k → 3 ^ m ≤ 3 ^ k
 power-le m k h = pow-le-pow-right {n = 3} (lit< tt) {i = m} {j = k} h
+
+thrice : (a w : ℕ) → a * (w * 3) ≡ a * w * 3
+thrice a w = sym (mul-assoc a w 3)
+
+put-sum : (x m v : ℕ) → putDigit x m v + digitOf v m * 3 ^ m ≡ v + x * 3 ^ m
+unfolding digitOf putDigit
+put-sum x zero v = omega arith
+put-sum x (suc m) v = rw (pow-suc 3 m, thrice (digitOf (v / 3) m) (3 ^ m), thrice x (3 ^ m)) (omega (arith, put-sum x m (v / 3)))
+
+-- how code replaces a digit
+pub put-is : (x m v : ℕ) → v + x * 3 ^ m - digitOf v m * 3 ^ m ≡ putDigit x m v
+put-is x m v = omega (arith, put-sum x m v)
+
+pub digit-le : (m v : ℕ) → digitOf v m * 3 ^ m ≤ v
+digit-le m v = omega (arith, put-sum 0 m v)
 
 pub put-lt : (x m n v : ℕ) → x < 3 → m < n → v < 3 ^ n → putDigit x m v < 3 ^ n
 unfolding putDigit
