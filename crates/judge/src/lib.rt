@@ -33,6 +33,10 @@ fn agrees(
     requires { ⌜ (n ≤ 9) × (m ≤ 64) × (i < j) × (j < n) × Low (now outs) ⌝ }
     ensures { λ r. ⌜ ((t : Table) → Given t (now (s .entry)) all (now (outs .entry)) n m → Tells t i j r) ⌝ }
 {
+    // Up to three inputs have no more vectors than a word has bits.
+    if n < 4 {
+        return cube::pair_agrees(s, outs, all, n, m, i, j);
+    }
     lanes::pair_agrees(s, outs, all, n, m, i, j)
 }
 
