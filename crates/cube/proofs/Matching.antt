@@ -82,7 +82,7 @@ any-column s i j r (suc k) v = rw (any-column s i j r k (v / 3)) (go (eqb k i) (
     go false true = refl
     go false false = refl
 
--- the rows of lane l that are in x and, where e says so, in edges
+-- the rows of lane l that are in x
 module _ (s : List (List ℕ)) (all n m i c : ℕ) (g : List ℕ) (li : i < n) (lm : m ≤ 64) (few : (r : ℕ) → m ≤ r → bit all r ≡ false) (h : Lanes s n m i c g)
     (l : ℕ) (lt : l < 27) (x : ℕ) where
   abbrev cell : ℕ

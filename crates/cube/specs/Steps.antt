@@ -29,7 +29,7 @@ pub record Levels (s : List (List ℕ)) (outs : List ℕ) (all n m : ℕ) (lev :
 pub record Stays (p : List ℕ) (o still : ℕ) (r : List ℕ) : Type 0 where
   pub told : (f : ℕ → ℕ) → Told 4 p f → Told 4 r (λ (l : ℕ). cond (bit still l) o (f l))
 
--- there too the words tell o; elsewhere a lane with no answer gets that of the set's lowest row
+-- the same, and then a lane with no answer gets that of the set's lowest row, or x
 pub record Step (outs g : List ℕ) (o set still : ℕ) (p r : List ℕ) : Type 0 where
   pub told : (f : ℕ → ℕ) → Told 4 p f → Told 3 r (λ (l : ℕ). orX (answered outs g o set (λ (l : ℕ). cond (bit still l) o (f l)) l))
 
@@ -50,7 +50,7 @@ pub record Steps (s : List (List ℕ)) (outs : List ℕ) (all n m i : ℕ) (p : 
 unfoldable pub sameIn : (ℕ → ℕ → ℕ → ℕ) → (ℕ → ℕ → ℕ → ℕ) → ℕ → ℕ → ℕ → ℕ → ℕ → ℕ → Bool
 sameIn f h v w a b o l = eqb (h b (f a o (putBy w b l)) l) (f a (h b o (putBy v a l)) l)
 
--- the lanes in which they do not
+-- r has no lane where they do in every lane, and only there
 pub record Differ (p q : List (List ℕ)) (v w a b o r : ℕ) : Type 0 where
   pub at : (f h : ℕ → ℕ → ℕ → ℕ) → Tell p f → Tell q h → eqb (bitAnd r 134217727) 0 ≡ every 27 (sameIn f h v w a b o)
 

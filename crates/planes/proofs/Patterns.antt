@@ -15,7 +15,7 @@ word-bit : (b : Bool) (p l : ℕ) → bit (cond b p 0) l ≡ (bit p l && b)
 word-bit true p l = sym (and-true (bit p l))
 word-bit false p l = bit-zero l ∙ sym (and-false (bit p l))
 
--- of three words the one that has lane l, whose digit is d, tells whether the lane is in all of them
+-- p, q and w have the lanes of the three digits, and a tells which of them are joined: then lane l, whose digit is d, is in where a holds of d
 pub digit-words : (a : ℕ → Bool) (p q w d l : ℕ) → d < 3 → bit p l ≡ eqb d 0 → bit q l ≡ eqb d 1 → bit w l ≡ eqb d 2 →
     bit (bitOr (cond (a 0) p 0) (bitOr (cond (a 1) q 0) (cond (a 2) w 0))) l ≡ a d
 digit-words a p q w d l ld ep eq ew =
