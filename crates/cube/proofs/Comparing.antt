@@ -17,7 +17,7 @@ use Rattle.planes.specs.Words.{bit, Told}
 use Rattle.planes.specs.Paths.{pathOf}
 use Rattle.planes.proofs.Bits.{bit-and, bit-or, bit-xor, bit-zero, bit-ext, bit-past}
 use Rattle.planes.proofs.Planes.{all-lanes}
-use Rattle.planes.proofs.Composed.{path-bit}
+use Rattle.planes.proofs.Composed.{path-bit, same-tests}
 use Rattle.cube.specs.Lanes.{putBy, Moved}
 use Rattle.cube.specs.Steps.{Tell, sameIn, Differ}
 
@@ -42,23 +42,6 @@ none-in x = go (every 27 (λ (l : ℕ). not (bit x l))) refl
         clash (sym (every-of (λ (l : ℕ). not (bit x l)) 27 (λ l h. ap not (sym (in-lane x l h) ∙ ap (λ (y : ℕ). bit y l) z ∙ bit-zero l))) ∙ e))
 
 -- ---- both ways in one lane
-
--- two value numbers are equal where they are 1 together and 2 together
-same-tests : (q p : ℕ) → q < 3 → p < 3 → not (xor (eqb q 1) (eqb p 1) || xor (eqb q 2) (eqb p 2)) ≡ eqb q p
-unfolding xor
-same-tests zero zero hq hp = refl
-same-tests zero (suc zero) hq hp = refl
-same-tests zero (suc (suc zero)) hq hp = refl
-same-tests (suc zero) zero hq hp = refl
-same-tests (suc zero) (suc zero) hq hp = refl
-same-tests (suc zero) (suc (suc zero)) hq hp = refl
-same-tests (suc (suc zero)) zero hq hp = refl
-same-tests (suc (suc zero)) (suc zero) hq hp = refl
-same-tests (suc (suc zero)) (suc (suc zero)) hq hp = refl
-same-tests zero (suc (suc (suc p))) hq hp = absurd (omega arith)
-same-tests (suc zero) (suc (suc (suc p))) hq hp = absurd (omega arith)
-same-tests (suc (suc zero)) (suc (suc (suc p))) hq hp = absurd (omega arith)
-same-tests (suc (suc (suc q))) p hq hp = absurd (omega arith)
 
 -- one way: the step told by the words r, and then one of the steps that the words q tell for b
 way : (q : List (List ℕ)) (r : List ℕ) (e : ℕ → ℕ) (h : ℕ → ℕ → ℕ → ℕ) (b m l : ℕ) → b < 3 → m < 3 → l < 27 → Told 3 r e → Tell q h → e l < 3 →

@@ -17,7 +17,7 @@ use Rattle.memo.specs.Rows.{allRows, cellAt, restOf, outBy, entryOf}
 use Rattle.planes.specs.Words.{bit, Told}
 use Rattle.planes.specs.Planes.{laneRows, answerIn, answered, orX, Spread, Closed}
 use Rattle.planes.proofs.Bits.{bit-and, bit-or, bit-xor, bit-past}
-use Rattle.planes.proofs.Planes.{all-lanes, level-told, swap}
+use Rattle.planes.proofs.Planes.{all-lanes, level-told, swap, told-same}
 use Rattle.planes.proofs.Entered.{out-rank, entry-low}
 use Rattle.plain.proofs.Sets.{both-in}
 use Rattle.plain.proofs.Alike as alike
@@ -25,9 +25,6 @@ use Rattle.cube.specs.Lanes.{Zeros, Lanes}
 use Rattle.cube.specs.Steps.{Facts, Levels, Stays, Step, stepIn, Steps}
 use Rattle.cube.proofs.Shifts.{cut-bit}
 use Rattle.cube.proofs.Matching.{any-column, lane-set}
-
-told-in : (n : ℕ) (p : List ℕ) (f h : ℕ → ℕ) → ((l : ℕ) → l < 27 → f l ≡ h l) → Told n p f → Told n p h
-told-in n p f h e t = record { at = λ m l lm lt. t .at m l lm lt ∙ ap (λ (q : ℕ). eqb q m) (e l lt) }
 
 -- ---- the level rows
 
@@ -46,7 +43,7 @@ levels-by s outs all n m i g a b c lm h ha hb hc = record { at = λ t d k o lk l
   where
     told : (t : Table) → Facts t s outs all n m → (k o : ℕ) → k < n → (p : List ℕ) → Spread outs g o (bitAnd all (cellAt s n o)) (0 ∷ 0 ∷ 0 ∷ 134217727 ∷ []) p →
         Told 4 p (λ (l : ℕ). answerIn outs o (bitAnd (bitAnd (restOf s all k n l) (cellAt s n o)) (cellAt s k (digitOf l (n - suc k)))))
-    told t d k o lk p hp = told-in 4 p _ _
+    told t d k o lk p hp = told-same 4 p _ _
         (λ l lt.
         ap (answerIn outs o)
         (lane-set s all n m k 0 g lk lm (few t s outs all n m d) (any-lanes s n m i k g h) l lt (cellAt s n o)
@@ -178,7 +175,7 @@ module _ (s : List (List ℕ)) (outs : List ℕ) (all n m i a o w z : ℕ) (g : 
         let ea : e / 3 ≡ a = omega arith in
         let eo : e % 3 ≡ o = omega arith in
         let h = rw ex at hx in
-        rw (ea, eo) (told-in 3 p _ _ (λ l lt. step-is t d l lt) (h .told _ (hl .at t d i o li lo)));
+        rw (ea, eo) (told-same 3 p _ _ (λ l lt. step-is t d l lt) (h .told _ (hl .at t d i o li lo)));
   }
 
 pub steps-by : (s : List (List ℕ)) (outs : List ℕ) (all n m i : ℕ) (f : List (List ℕ)) → i < n → ((e : ℕ) → e < 9 → Stepped s outs all n m i e (getD f e [])) → Steps s outs all n m i f

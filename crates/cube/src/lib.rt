@@ -7,7 +7,6 @@ ghost use lib.Dec.{eqb};
 ghost use lib.ListN.{length, getD};
 ghost use Rattle.table.specs.Table.{Table};
 ghost use Rattle.memo.specs.Rows.{allRows, cellAt};
-ghost use Rattle.planes.specs.Words.{bit};
 ghost use Rattle.planes.specs.Planes.{Low, Given};
 ghost use Rattle.planes.specs.Pairs.{Tells};
 ghost use Rattle.planes.specs.Paths.{pathOf};
@@ -38,22 +37,15 @@ fn weight(n: usize, k: usize) -> usize
     }
 }
 
-// The word p where r is in m, else none.
-fn lanes_of(m: u64, r: usize, p: u32) -> u32
-    requires { ⌜ r < 64 ⌝ }
-    ensures { λ w. ⌜ w ≡ cond (bit m r) p 0 ⌝ }
-{
-    if (m >> r) & 1 == 1 { p } else { 0 }
-}
-
 // The lanes in which row r matches in column k, whose digit has weight w: it is offered number c where the digit is 0, the next ones where it is 1 and 2.
 fn lanes_in(s: &[[u64; memo::OFFERS]; memo::COLUMNS], k: usize, w: usize, c: usize, r: usize) -> u32
     requires { ⌜ (k < 10) × Weight w × (c < 10) × (r < 64) ⌝ }
     ensures { λ p. ⌜ ColumnLanes (now (s .entry)) k w c r p ⌝ }
 {
     let p = zeros(w);
-    lanes_of(s[k][c], r, p)
-        | (lanes_of(s[k][c + 1], r, p << w) | lanes_of(s[k][c + 2], r, p << (w + w)))
+    planes::lanes_of(s[k][c], r, p)
+        | (planes::lanes_of(s[k][c + 1], r, p << w)
+            | planes::lanes_of(s[k][c + 2], r, p << (w + w)))
 }
 
 // What column k is offered where its value is 0, if a change is offered to column i from number c on.

@@ -134,15 +134,3 @@ module _ (t : Table) (s : List (List ℕ)) (outs : List ℕ) (all i j n : ℕ) (
           let x : (c * 27 + l) / 27 ≡ c = omega arith in
           let y : (c * 27 + l) % 27 ≡ l = omega arith in
           rw (x, y) at (parts (c * 27 + l))
-
-  -- where every row is plain there is nothing to look at
-  pub plain-by : (steady edges : ℕ) → Plain s outs n i j steady edges → Only all steady edges → Tells t i j true
-  plain-by steady edges p o = record {
-    sound = λ y. record {
-      at = λ v.
-          let r = plain-agree t s outs n i j d (othersOf s all i j n v) all steady edges
-          (λ k e. matching-in i j s all n (squeeze i j n v) k (rw (others-matching s all i j n v) at e)) (p .rows) (p .first) (p .second) o in
-          rw (d .cells-are, ea, d .inputs-are) at r;
-    };
-    whole = λ y. refl;
-  }

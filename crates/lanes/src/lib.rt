@@ -1,5 +1,4 @@
 ghost use mathlib.Core.Path.{_≡_};
-ghost use mathlib.Core.Bool.{cond};
 ghost use Prim.Native.Nat.{ℕ, _-_, _/_, _%_, _<_, _≤_};
 ghost use Rattle.value.specs.Value.{rankOf, valueOf};
 ghost use Rattle.symbol.specs.Match.{resultOf};
@@ -7,7 +6,6 @@ ghost use lib.ListN.{length};
 ghost use Rattle.table.specs.Table.{Table, rowAt};
 ghost use Rattle.table.specs.Area.{decode};
 ghost use Rattle.memo.specs.Rows.{Small, allRows};
-ghost use Rattle.planes.specs.Words.{bit};
 ghost use Rattle.planes.specs.Planes.{Low, Outputs, Given};
 ghost use Rattle.plain.specs.Plain.{Plain};
 ghost use Rattle.lanes.specs.Columns.{topOf, lanesIn, LaneRow, Lanes};
@@ -30,14 +28,6 @@ fn top_of(i: usize, j: usize, k: usize) -> usize
     q
 }
 
-// The word p where r is in m, else none.
-fn lanes_of(m: u64, r: usize, p: u32) -> u32
-    requires { ⌜ r < 64 ⌝ }
-    ensures { λ w. ⌜ w ≡ cond (bit m r) p 0 ⌝ }
-{
-    if (m >> r) & 1 == 1 { p } else { 0 }
-}
-
 // The lanes in which row r matches in the column before t, where p, q and w are the lanes that have 0, 1 and x there.
 fn lanes_in(
     s: &[[u64; memo::OFFERS]; memo::COLUMNS],
@@ -54,7 +44,8 @@ fn lanes_in(
         return planes::LANES;
     }
     let k = t - 1;
-    lanes_of(s[k][0], r, p) | (lanes_of(s[k][1], r, q) | lanes_of(s[k][2], r, w))
+    planes::lanes_of(s[k][0], r, p)
+        | (planes::lanes_of(s[k][1], r, q) | planes::lanes_of(s[k][2], r, w))
 }
 
 // The lanes of row r.

@@ -1,7 +1,7 @@
 -- Two steps one after the other, lane by lane. Assumes nothing.
 use Prim.Native.Nat.{ℕ, zero, suc, _+_, _-_, _*_, _/_, _%_, _<_, _≤_}
 use mathlib.Core.Path.{_≡_, refl, sym, ap, _∙_}
-use mathlib.Core.Bool.{Bool, true, false, cond, _&&_, _||_, xor, and-true, and-false, or-false}
+use mathlib.Core.Bool.{Bool, true, false, not, cond, _&&_, _||_, xor, and-true, and-false, or-false}
 use mathlib.Core.List.{List, []}
 use mathlib.Core.Logic.{⊎-elim}
 use native.Mathlib.Nat.{add-zero}
@@ -40,21 +40,25 @@ picks (suc zero) d h = or-false (d 1)
 picks (suc (suc zero)) d h = refl
 picks (suc (suc (suc q))) d h = absurd (omega arith)
 
--- two value numbers that are 1 together and 2 together are equal
+-- two value numbers are equal where they are 1 together and 2 together
+pub same-tests : (q p : ℕ) → q < 3 → p < 3 → not (xor (eqb q 1) (eqb p 1) || xor (eqb q 2) (eqb p 2)) ≡ eqb q p
+unfolding xor
+same-tests zero zero hq hp = refl
+same-tests zero (suc zero) hq hp = refl
+same-tests zero (suc (suc zero)) hq hp = refl
+same-tests (suc zero) zero hq hp = refl
+same-tests (suc zero) (suc zero) hq hp = refl
+same-tests (suc zero) (suc (suc zero)) hq hp = refl
+same-tests (suc (suc zero)) zero hq hp = refl
+same-tests (suc (suc zero)) (suc zero) hq hp = refl
+same-tests (suc (suc zero)) (suc (suc zero)) hq hp = refl
+same-tests zero (suc (suc (suc p))) hq hp = absurd (omega arith)
+same-tests (suc zero) (suc (suc (suc p))) hq hp = absurd (omega arith)
+same-tests (suc (suc zero)) (suc (suc (suc p))) hq hp = absurd (omega arith)
+same-tests (suc (suc (suc q))) p hq hp = absurd (omega arith)
+
 same-value : (q p : ℕ) → q < 3 → p < 3 → eqb q 1 ≡ eqb p 1 → eqb q 2 ≡ eqb p 2 → q ≡ p
-same-value zero zero hq hp e f = refl
-same-value zero (suc zero) hq hp e f = clash (sym e)
-same-value zero (suc (suc zero)) hq hp e f = clash (sym f)
-same-value (suc zero) zero hq hp e f = clash e
-same-value (suc zero) (suc zero) hq hp e f = refl
-same-value (suc zero) (suc (suc zero)) hq hp e f = clash e
-same-value (suc (suc zero)) zero hq hp e f = clash f
-same-value (suc (suc zero)) (suc zero) hq hp e f = clash f
-same-value (suc (suc zero)) (suc (suc zero)) hq hp e f = refl
-same-value zero (suc (suc (suc p))) hq hp e f = absurd (omega arith)
-same-value (suc zero) (suc (suc (suc p))) hq hp e f = absurd (omega arith)
-same-value (suc (suc zero)) (suc (suc (suc p))) hq hp e f = absurd (omega arith)
-same-value (suc (suc (suc q))) p hq hp e f = absurd (omega arith)
+same-value q p hq hp e f = eqb-true q p (sym (same-tests q p hq hp) ∙ rw (e, f, unequal (eqb p 1), unequal (eqb p 2)))
 
 -- the words of a path
 pub path-bit : (f h : List (List ℕ)) (p q m : ℕ) (e : ℕ → ℕ) (d : ℕ → ℕ → ℕ) (l : ℕ) → m < 3 → l < 27 → Told 3 (getD f p []) e →

@@ -71,7 +71,7 @@ module _ (t : Table) (s : List (List ℕ)) (outs g : List ℕ) (n i j r : ℕ) (
   -- the step of column c, in words
   step-told : (c h : ℕ) (f : List (List ℕ)) → Steps outs s g n c h r f → (u w a o : ℕ) → u < 3 → w < 3 → a < 3 → o < 3 → eqb a u ≡ false →
       Told 3 (getD f (stepsAt u w a + o) []) (λ (l : ℕ). entryOf t s c (besides s g h r w l) u a o)
-  step-told c h f st u w a o lu lw la lo e = told-same 3 _ _ _ (λ l. enter-is t s outs n i j d o lo g c h r u w a l e) (st .at u w a o lu lw la lo e)
+  step-told c h f st u w a o lu lw la lo e = told-same 3 _ _ _ (λ l lt. enter-is t s outs n i j d o lo g c h r u w a l e) (st .at u w a o lu lw la lo e)
 
   abbrev rest : ℕ → ℕ
   rest l = bitAnd r (laneRows g l)

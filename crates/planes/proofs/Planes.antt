@@ -16,8 +16,8 @@ use Rattle.planes.specs.Words.{bit, Told}
 use Rattle.planes.specs.Planes.{laneRows, answerIn, answered, Spread, orX, Closed, besides, rowsBy, placeOf, Level, Levels, enterOf, Step, Steps, stepsAt}
 use Rattle.planes.proofs.Bits.{bit-and, bit-or, bit-zero, bit-ext}
 
-pub told-same : (n : ℕ) (p : List ℕ) (f h : ℕ → ℕ) → ((l : ℕ) → f l ≡ h l) → Told n p f → Told n p h
-told-same n p f h e t = record { at = λ m l lm lt. t .at m l lm lt ∙ ap (λ (q : ℕ). eqb q m) (e l) }
+pub told-same : (n : ℕ) (p : List ℕ) (f h : ℕ → ℕ) → ((l : ℕ) → l < 27 → f l ≡ h l) → Told n p f → Told n p h
+told-same n p f h e t = record { at = λ m l lm lt. t .at m l lm lt ∙ ap (λ (q : ℕ). eqb q m) (e l lt) }
 
 -- at first every lane is open
 pub all-lanes : (l : ℕ) → l < 27 → bit 134217727 l ≡ true
@@ -37,7 +37,7 @@ start-told = record { at = go }
 pub level-told : (outs g : List ℕ) (o set rows : ℕ) (r : List ℕ) → set ≡ rows → Spread outs g o set (0 ∷ 0 ∷ 0 ∷ 134217727 ∷ []) r →
     Told 4 r (λ (l : ℕ). answerIn outs o (bitAnd rows (laneRows g l)))
 unfolding answered
-level-told outs g o set rows r e p = rw (← e) (told-same 4 r _ _ (λ l. refl) (p .told (λ (l : ℕ). 3) start-told))
+level-told outs g o set rows r e p = rw (← e) (told-same 4 r _ _ (λ l h. refl) (p .told (λ (l : ℕ). 3) start-told))
 
 -- an open lane gets x at the end
 or-two : (q : ℕ) → (eqb q 2 || eqb q 3) ≡ eqb (orX q) 2
@@ -117,8 +117,8 @@ module _ (outs : List ℕ) (s : List (List ℕ)) (g : List ℕ) (n i j r : ℕ) 
   pub levels-by : (f : List (List ℕ)) → ((e : ℕ) → e < 27 → Level outs s g n i j r e (getD f e [])) → Levels outs s g n i j false r f × Levels outs s g n j i true r f
   unfolding placeOf
   levels-by f h = (
-    record { at = λ u w o lu lw lo. told-same 4 _ _ _ (λ l. ap (answerIn outs o) (by-first u w o l)) (level-of u w o _ _ lu lw lo refl (h ((u * 3 + w) * 3 + o) (omega arith))) },
-    record { at = λ u w o lu lw lo. told-same 4 _ _ _ (λ l. ap (answerIn outs o) (by-second w u o l)) (level-of w u o _ _ lw lu lo refl (h ((w * 3 + u) * 3 + o) (omega arith))) },
+    record { at = λ u w o lu lw lo. told-same 4 _ _ _ (λ l h. ap (answerIn outs o) (by-first u w o l)) (level-of u w o _ _ lu lw lo refl (h ((u * 3 + w) * 3 + o) (omega arith))) },
+    record { at = λ u w o lu lw lo. told-same 4 _ _ _ (λ l h. ap (answerIn outs o) (by-second w u o l)) (level-of w u o _ _ lw lu lo refl (h ((w * 3 + u) * 3 + o) (omega arith))) },
   )
 
 -- a step goes on from the planes of the level rows
@@ -128,7 +128,7 @@ pub step-by : (outs : List ℕ) (s : List (List ℕ)) (g : List ℕ) (n c h : �
 unfolding enterOf
 step-by outs s g n c h turned r k o set at lev p lk lo lv es ea cl =
     let done = rw (es, ea) at cl in
-    record { told = λ e. told-same 3 p _ _ (λ l. refl) (done .told _ (lv .at (k / 9) (k / 3 % 3) o (omega arith) (omega arith) lo)) }
+    record { told = λ e. told-same 3 p _ _ (λ l h. refl) (done .told _ (lv .at (k / 9) (k / 3 % 3) o (omega arith) (omega arith) lo)) }
 
 -- the step in place e
 pub StepIn : (outs : List ℕ) (s : List (List ℕ)) (g : List ℕ) (n c h r e : ℕ) (p : List ℕ) → Type 0

@@ -1,7 +1,8 @@
 ghost use mathlib.Core.Path.{_≡_};
-ghost use mathlib.Core.Bool.{false, true};
+ghost use mathlib.Core.Bool.{false, true, cond};
 ghost use Prim.Native.Nat.{ℕ, _<_};
 ghost use Rattle.base.specs.Search.{every};
+ghost use Rattle.planes.specs.Words.{bit};
 ghost use Rattle.planes.specs.Planes.{Low, Spread, Closed, rowsBy, Level, Levels, placeOf, Step, Steps, LanesTell};
 ghost use Rattle.planes.specs.Paths.{pathOf, differOf, agreeOf, agreeAt, agreeIn};
 
@@ -10,6 +11,14 @@ pub const LANES: u32 = 134217727;
 
 // What each row answers for each of the three old outputs.
 pub const OUTPUTS: usize = base::ROWS * 3;
+
+// The word p where r is in m, else none.
+pub fn lanes_of(m: u64, r: usize, p: u32) -> u32
+    requires { ⌜ r < 64 ⌝ }
+    ensures { λ w. ⌜ w ≡ cond (bit m r) p 0 ⌝ }
+{
+    if (m >> r) & 1 == 1 { p } else { 0 }
+}
 
 // The lanes that are open get the answers of the rows of a set: the first three words have the lanes with each answer, the last those with none.
 pub fn spread(

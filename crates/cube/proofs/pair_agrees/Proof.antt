@@ -1,5 +1,6 @@
 use borrow.Author.Needs.{needs}
-use Rattle.cube.proofs.Telling.{plain-tells, tells-by}
+use Rattle.plain.proofs.Telling.{plain-tells}
+use Rattle.cube.proofs.Telling.{tells-by}
 use Rattle.cube.proofs.pair_agrees.Statement.{statement}
 use Rattle.cube.proofs.pair_agrees.Tie as tie
 

@@ -1,6 +1,7 @@
 use native.Mathlib.Omega.{arith}
 use borrow.Author.Needs.{needs}
-use Rattle.lanes.proofs.Contexts.{pair-by, plain-by}
+use Rattle.plain.proofs.Telling.{plain-tells}
+use Rattle.lanes.proofs.Contexts.{pair-by}
 use Rattle.lanes.proofs.pair_agrees.Statement.{statement}
 use Rattle.lanes.proofs.pair_agrees.Tie as tie
 
@@ -13,7 +14,7 @@ pair-agrees-spec =
     (λ c κs. search needs)
     (λ c t G ea em.
     let x = c .before .before in
-    plain-by t _ _ _ _ _ _ G ea _ _
+    plain-tells t _ _ _ _ _ _ _ _ G ea
     (record { rows = x .before .steady-rows .ensures; first = x .edges-of .ensures .0; second = x .edges-of .ensures .1 })
     (c .before .only-plain .ensures (c .if1 .taken)))
     (λ c κs. search needs)
