@@ -11,7 +11,7 @@ ghost use Rattle.text.specs.Places.{meant};
 ghost use Rattle.writing.specs.Written.{rowWritten};
 ghost use Rattle.grammar.specs.Rows.{columns, row, rows as rowsOf};
 ghost use Rattle.grammar.specs.Reading.{primitive};
-ghost use Rattle.grammar.proofs.Flags.{behind};
+ghost use Rattle.grammar.proofs.Behind.{behind};
 ghost use Rattle.reading.specs.Told.{out, readInto, refusalOf, drawn, rowTail, withRows, Begun};
 use fields::Piece;
 use header::HeadStep;
