@@ -10,7 +10,7 @@ use lib.Bits.{bitAnd}
 use lib.Dec.{eqb}
 use borrow.Author.Tests.{eq-eqb, ne-eqb}
 use Rattle.base.proofs.Bools.{lt-or-ge}
-use Rattle.orders.proofs.Digits.{digitOf}
+use Rattle.orders.specs.Digits.{digitOf}
 use Rattle.memo.specs.Rows.{cellAt, restOf}
 use Rattle.planes.specs.Words.{bit}
 use Rattle.planes.specs.Planes.{laneRows}

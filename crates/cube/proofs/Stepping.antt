@@ -11,7 +11,8 @@ use lib.ListN.{length, getD, set}
 use lib.Seq.{getD-set-same, getD-set-other}
 use borrow.Author.Tests.{eqb-true, eqb-false, eq-eqb, ne-eqb}
 use Rattle.table.specs.Table.{Table}
-use Rattle.orders.proofs.Digits.{digitOf, digit-is, digit-low}
+use Rattle.orders.specs.Digits.{digitOf}
+use Rattle.orders.proofs.Digits.{digit-is, digit-low}
 use Rattle.evaluation.specs.Step.{answerOr}
 use Rattle.memo.specs.Rows.{allRows, cellAt, restOf, outBy, entryOf}
 use Rattle.planes.specs.Words.{bit, Told}

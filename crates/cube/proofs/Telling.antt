@@ -13,7 +13,8 @@ use borrow.Author.Tests.{eqb-true, eq-eqb}
 use Rattle.base.specs.Search.{every}
 use Rattle.base.proofs.Search.{every-at, every-of}
 use Rattle.table.specs.Table.{Table}
-use Rattle.orders.proofs.Digits.{digitOf, putDigit, digit-is, digit-low, digit-le, put-is, put-lt}
+use Rattle.orders.specs.Digits.{digitOf, putDigit}
+use Rattle.orders.proofs.Digits.{digit-is, digit-low, digit-le, put-is, put-lt}
 use Rattle.memo.specs.Rows.{allRows, cellAt, restOf}
 use Rattle.memo.specs.Pair.{othersOf, firstThen, secondThen}
 use Rattle.memo.proofs.Others.{others-comm, others-put, rest-others, digit-same, digit-other}

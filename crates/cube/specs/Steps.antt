@@ -8,7 +8,7 @@ use lib.Dec.{eqb}
 use lib.ListN.{length, getD}
 use Rattle.base.specs.Search.{every}
 use Rattle.table.specs.Table.{Table}
-use Rattle.orders.proofs.Digits.{digitOf}
+use Rattle.orders.specs.Digits.{digitOf}
 use Rattle.memo.specs.Rows.{allRows, cellAt, restOf, entryOf}
 use Rattle.planes.specs.Words.{bit, Told}
 use Rattle.planes.specs.Planes.{answerIn, answered, orX, Given}

@@ -10,7 +10,8 @@ use borrow.Author.Tests.{eq-eqb, eqb-true, not-false}
 use Rattle.base.proofs.Search.{first-none, first-below}
 use Rattle.table.specs.Table.{Table}
 use Rattle.orders.specs.Verdict.{candidates}
-use Rattle.orders.proofs.Digits.{digitOf, putDigit, digit-is, put-lt}
+use Rattle.orders.specs.Digits.{digitOf, putDigit}
+use Rattle.orders.proofs.Digits.{digit-is, put-lt}
 use Rattle.memo.specs.Rows.{cells, allRows}
 use Rattle.memo.specs.Pair.{othersOf, firstThen, secondThen}
 use Rattle.memo.proofs.Others.{digit-same, digit-other, others-put}

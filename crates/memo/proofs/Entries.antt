@@ -23,7 +23,8 @@ use Rattle.table.specs.Match.{fieldOf, columnsMatch, rowMatches}
 use Rattle.orders.specs.Vectors.{at, put, vectorOf}
 use Rattle.orders.specs.Order.{Step}
 use Rattle.orders.proofs.Candidates.{rank-value, length-vectorOf}
-use Rattle.orders.proofs.Digits.{digitOf, digit-low, value-digit, last-value, earlier-value}
+use Rattle.orders.specs.Digits.{digitOf}
+use Rattle.orders.proofs.Digits.{digit-low, value-digit, last-value, earlier-value}
 use Rattle.evaluation.specs.Step.{rowFor, answerOf, stepOf}
 use Rattle.evaluation.proofs.Laws.{step-arrives}
 use Rattle.symbol.specs.Masks.{maskOf}

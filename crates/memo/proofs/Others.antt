@@ -11,7 +11,7 @@ use lib.Arith.{bin-ind}
 use lib.Bits.{bitAnd, and-step}
 use lib.Dec.{eqb}
 use borrow.Author.Tests.{eq-eqb, ne-eqb}
-use Rattle.orders.proofs.Digits.{digitOf, putDigit}
+use Rattle.orders.specs.Digits.{digitOf, putDigit}
 use Rattle.memo.specs.Rows.{cellAt, restOf}
 use Rattle.memo.specs.Pair.{othersOf}
 

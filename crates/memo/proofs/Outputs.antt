@@ -16,6 +16,7 @@ use Rattle.orders.specs.Verdict.{currentAt, firstOutput, secondOutput}
 use Rattle.orders.proofs.Places.{at-other, at-same, put-back, put-comm, vector-put, only-two}
 use Rattle.orders.proofs.Pairs.{tail-idle}
 use Rattle.orders.proofs.Candidates.{value-rank, rank-value, rank-low, vector-number}
+use Rattle.orders.specs.Digits.{digitOf, putDigit}
 use Rattle.orders.proofs.Digits as digits
 use Rattle.evaluation.specs.Step.{stepOf}
 use Rattle.evaluation.proofs.Laws.{laws}
@@ -92,10 +93,10 @@ module _ (t : Table) (small : Small t) where
   others i j v = othersOf (cells t) (allRows t) i j n v
 
   abbrev digit : ℕ → ℕ → ℕ
-  digit i v = digits.digitOf v (n - suc i)
+  digit i v = digitOf v (n - suc i)
 
   abbrev moved : ℕ → ℕ → ℕ → ℕ
-  moved i x v = digits.putDigit x (n - suc i) v
+  moved i x v = putDigit x (n - suc i) v
 
   -- i arrives from a at x, j stands at b
   one-entry : (i j v a b x o : ℕ) → i < n → j < n → i ≢ j → a < 3 → x < 3 → o < 3 → b ≡ digit j v →

@@ -11,17 +11,9 @@ use lib.Seq.{getD-at, set-at, set-append-left}
 use Rattle.value.specs.Value.{valueOf}
 use Rattle.value.specs.declared.Ternary.{Ternary}
 use Rattle.value.specs.declared.Ternary.the-variants.{V0}
+use Rattle.orders.specs.Digits.{digitOf, putDigit}
 use Rattle.orders.specs.Vectors.{at, put, vectorOf}
 use Rattle.orders.proofs.Candidates.{length-vectorOf}
-
--- the digit at place m, counted from the right; and the number with that digit replaced by x
-unfoldable pub digitOf : ℕ → ℕ → ℕ
-digitOf v zero = v % 3
-digitOf v (suc m) = digitOf (v / 3) m
-
-unfoldable pub putDigit : ℕ → ℕ → ℕ → ℕ
-putDigit x zero v = v / 3 * 3 + x
-putDigit x (suc m) v = putDigit x m (v / 3) * 3 + v % 3
 
 pub digit-is : (v m : ℕ) → digitOf v m ≡ v / 3 ^ m % 3
 unfolding digitOf
