@@ -6,5 +6,5 @@ use Rattle.lister.specs.declared.Listed.{Listed}
 use Rattle.lister.specs.declared.Listed.the-variants.{At, Done}
 
 abbrev pub Ahead : List ℕ → ℕ → Listed → Type 0
-Ahead text start (At next) = (start < next) × (next ≤ length text)
+Ahead text start (At next k) = (start < next) × (next ≤ length text)
 Ahead text start Done = Unit {0}

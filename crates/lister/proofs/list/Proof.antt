@@ -7,10 +7,10 @@ use Rattle.lister.proofs.list.Statement.{statement}
 use Rattle.lister.proofs.list.Tie as tie
 
 abbrev Inv-loop : tie.InvT-loop
-Inv-loop text area₀ line₀ at₀ area line at = (length area ≡ length area₀) × (length line ≡ length line₀)
+Inv-loop text area₀ out₀ at₀ n₀ area out at n = (length area ≡ length area₀) × (length out ≡ length out₀)
 
 abbrev μ-loop : tie.MeasureT-loop
-μ-loop text area₀ line₀ at₀ area line at = suc (length text) - at
+μ-loop text area₀ out₀ at₀ n₀ area out at n = suc (length text) - at
 
 pub list-spec : {M : Type 1} → statement M
 list-spec =
