@@ -30,6 +30,7 @@ use Rattle.grammar.specs.Rows.{columns, row, rows, agrees, beginsRow, noRows}
 use Rattle.text.specs.Blanks.{begins}
 use Rattle.text.proofs.Readlaws.{ahead-is}
 use Rattle.reading.specs.Told.{drawn, withRows, Begun}
+use Rattle.reading.proofs.Binds.{drawn-got, drawn-refused}
 
 -- ---- rows, one at a time
 
@@ -179,3 +180,65 @@ columns-long (suc m) edge =
 pub row-long : (sequential : Bool) (n : ℕ) → Gives (λ x. length (x .symbols) ≡ n) (row sequential n)
 unfolding row
 row-long sequential n = after (columns-long n sequential) (λ l e. past _ (λ y. past _ (λ o. past _ (λ z. given _ e))))
+
+-- ---- the next row, or the word behind the last
+
+module _ {t : List ℕ} {at : ℕ} {h : Table} {sequential : Bool} {n : ℕ} {a : List ℕ} {i k : ℕ} (g : Going t at h sequential n a i k)
+    (p : ℕ) (blank : skip i (drop i t) ≡ got tt p (drop p t)) where
+  abbrev Draws : List ℕ → Step → Type 0
+  Draws b z = drawn (λ l. encode (withRows h l)) (rows rowLimit sequential n [] at (drop at t)) ≡ meant t (λ x e. b) z
+
+  module _ (less : k < rowLimit) where
+    said-next : rows rowLimit sequential n [] at (drop at t) ≡ rows (suc (rowLimit - (k + 1))) sequential n (g .before) i (drop i t)
+    said-next = let r : rowLimit - k ≡ suc (rowLimit - (k + 1)) = omega arith in rw r at (g .said)
+
+    module _ (none : begins beginsRow (drop p t) ≡ false) (f : ℕ → ℕ → List ℕ) (z : Step) (word : keyword (bytes "endtable") p (drop p t) ≡ meant t f z) where
+      said-end : rows rowLimit sequential n [] at (drop at t) ≡ bind (meant t f z) (λ w. check (not (noRows (g .before))) 3 p >> give (g .before))
+      said-end = said-next ∙ rows-end sequential n (g .before) i (drop i t) p (drop p t) blank (rowLimit - (k + 1)) none ∙ rw word
+
+      pub end-refused : (c q : ℕ) → z ≡ Refused c q → (b : List ℕ) → Draws b z
+      end-refused c q e b = rw (said-end, e)
+
+      module _ (x j : ℕ) (e : z ≡ At x j) where
+        pub end-early : k ≡ 0 → Draws a (Refused 3 p)
+        unfolding _>>=_ check
+        end-early q = rw (said-end, e, none-of (g .before) k (g .count) q)
+
+        pub end-drawn : (k ≡ 0 → ⊥) → Draws a (At p j)
+        unfolding _>>=_ check
+        end-drawn q = rw (said-end, e, some-of (g .before) k (g .count) q, ← g .same)
+
+    module _ (some : begins beginsRow (drop p t) ≡ true) (z : Step) (b : List ℕ) (one : drawn (rowWritten a) (row sequential n p (drop p t)) ≡ meant t (λ x e. b) z) where
+      said-row : rows rowLimit sequential n [] at (drop at t) ≡ bind (row sequential n p (drop p t)) (λ x. check (agrees n (g .before) x) 9 p >> rows (rowLimit - (k + 1)) sequential n (g .before ++ (x ∷ [])))
+      said-row = said-next ∙ rows-row sequential n (g .before) i (drop i t) p (drop p t) blank (rowLimit - (k + 1)) some
+
+      pub row-refused : (c q : ℕ) → z ≡ Refused c q → (d : List ℕ) → Draws d z
+      row-refused c q e d = rw (said-row, drawn-refused (rowWritten a) (row sequential n p (drop p t)) c q (rw e at one), e)
+
+      module _ (x j : ℕ) (e : z ≡ At x j) where
+        taken : (y : Row) × (row sequential n p (drop p t) ≡ got y j (drop j t)) × (rowWritten a y ≡ b)
+        taken = drawn-got (rowWritten a) (row sequential n p (drop p t)) b j (drop j t) (rw e at one)
+
+        long-taken : length (taken .0 .symbols) ≡ n
+        long-taken = rw (taken .1) at (row-long sequential n .post p (drop p t))
+
+        agreed : (v : Bool) → v ≡ rowAgrees (decode b) k → v ≡ agrees n (g .before) (taken .0)
+        agreed v q = q ∙ going-agrees g less (taken .0) long-taken b (taken .2)
+
+        pub row-apart : (v : Bool) → v ≡ rowAgrees (decode b) k → v ≡ false → Draws b (Refused 9 p)
+        unfolding _>>=_ check
+        row-apart v q u = rw (said-row, taken .1, ← agreed v q, u)
+
+        pub row-more : (v : Bool) → v ≡ rowAgrees (decode b) k → v ≡ true → Going t at h sequential n b j (k + 1)
+        unfolding _>>=_ check
+        row-more v q u = going-more g less (taken .0) long-taken b (taken .2) j (said-row ∙ rw (taken .1, ← agreed v q, u))
+
+  module _ (full : rowLimit ≤ k) where
+    said-last : rows rowLimit sequential n [] at (drop at t) ≡ rows 0 sequential n (g .before) i (drop i t)
+    said-last = let r : rowLimit - k ≡ 0 = omega arith in rw r at (g .said)
+
+    pub full-refused : begins beginsRow (drop p t) ≡ true → Draws a (Refused 6 p)
+    full-refused some = rw (said-last, rows-full sequential n (g .before) i (drop i t) p (drop p t) blank some)
+
+    pub full-drawn : begins beginsRow (drop p t) ≡ false → (f : ℕ → ℕ → List ℕ) (z : Step) → keyword (bytes "endtable") p (drop p t) ≡ meant t f z → Draws a z
+    full-drawn none f z word = rw (said-last, rows-last sequential n (g .before) i (drop i t) p (drop p t) blank none, word) (last-draw t f h (g .before) a z (g .same))

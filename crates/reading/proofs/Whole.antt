@@ -16,7 +16,7 @@ use Rattle.table.proofs.Encoding.{decode-encode}
 use Rattle.writing.specs.Written.{headOf, headFits, headWritten}
 use Rattle.text.specs.Bytes.{bytes}
 use Rattle.text.specs.Reader.{Result, got, refused, Reader, bind, _>>=_, _>>_, give, keyword, Named, name}
-use Rattle.text.specs.Places.{meant}
+use Rattle.text.specs.Places.{meant, named, part}
 use Rattle.text.specs.declared.Step.{Step}
 use Rattle.text.specs.declared.Step.the-variants.{At, Refused}
 use Rattle.grammar.specs.Header.{Ports, Declared, portList, declared}
@@ -25,9 +25,12 @@ use Rattle.grammar.specs.Reading.{primitive, end, outcome, orEnd}
 use Rattle.grammar.proofs.Post.{Gives, after, past, given, checked}
 use Rattle.grammar.proofs.Gives.{port-list-few}
 use Rattle.header.specs.declared.Head.{Head}
-use Rattle.header.specs.Heads.{head, headWith}
+use Rattle.header.specs.declared.HeadStep.{HeadStep}
+use Rattle.header.specs.declared.HeadStep.the-variants.{At as HeadAt, Refused as HeadRefused}
+use Rattle.header.specs.Heads.{head, headWith, means, raised}
 use Rattle.reading.specs.Told.{out, drawn, withRows, Begun}
 use Rattle.reading.specs.declared.Reading.{Reading}
+use Rattle.reading.proofs.Binds.{drawn-got, drawn-refused}
 use Rattle.reading.proofs.Drawing.{head-begun}
 
 -- ---- the grammar's lines, where those before them are read
@@ -52,16 +55,16 @@ opened : (k : ℕ) (s u : List ℕ) (i : ℕ) (z : List ℕ) → keyword (bytes 
 unfolding primitive _>>=_
 opened k s u i z e w j y f = rw (e, f)
 
-unfoldable pub tableOf : Named → Head → List Row → Table
+unfoldable tableOf : Named → Head → List Row → Table
 tableOf w x l = record { name = w .spelt; sequential = x .sequential; inputs = x .inputs; start = x .start; rows = l }
 
 module _ (k : ℕ) (s : List ℕ) where
-  pub primitive-first : (c p : ℕ) → keyword (bytes "primitive") k s ≡ refused c p → primitive k s ≡ refused c p
+  primitive-first : (c p : ℕ) → keyword (bytes "primitive") k s ≡ refused c p → primitive k s ≡ refused c p
   unfolding primitive _>>=_
   primitive-first c p e = rw e
 
   module _ (u : List ℕ) (i : ℕ) (z : List ℕ) (e : keyword (bytes "primitive") k s ≡ got u i z) where
-    pub primitive-name : (c p : ℕ) → name i z ≡ refused c p → primitive k s ≡ refused c p
+    primitive-name : (c p : ℕ) → name i z ≡ refused c p → primitive k s ≡ refused c p
     unfolding primitive _>>=_
     primitive-name c p f = rw (e, f)
 
@@ -72,26 +75,26 @@ module _ (k : ℕ) (s : List ℕ) where
           opened k s u i z e w j y f
           ∙ head-then (λ n sequential start. rows rowLimit sequential n [] >>= λ l. keyword (bytes "endprimitive") >>= λ v. give (record { name = w .spelt; sequential = sequential; inputs = n; start = start; rows = l })) j y
 
-      pub primitive-head : (c p : ℕ) → head j y ≡ refused c p → primitive k s ≡ refused c p
+      primitive-head : (c p : ℕ) → head j y ≡ refused c p → primitive k s ≡ refused c p
       primitive-head c p g = primitive-body ∙ rw g
 
       module _ (x : Head) (m : ℕ) (r : List ℕ) (g : head j y ≡ got x m r) where
-        pub primitive-stop : (c p : ℕ) → rows rowLimit (x .sequential) (x .inputs) [] m r ≡ refused c p → primitive k s ≡ refused c p
+        primitive-stop : (c p : ℕ) → rows rowLimit (x .sequential) (x .inputs) [] m r ≡ refused c p → primitive k s ≡ refused c p
         unfolding _>>=_
         primitive-stop c p h = primitive-body ∙ rw (g, h)
 
-        pub primitive-rows : (l : List Row) (n : ℕ) (q : List ℕ) → rows rowLimit (x .sequential) (x .inputs) [] m r ≡ got l n q
+        primitive-rows : (l : List Row) (n : ℕ) (q : List ℕ) → rows rowLimit (x .sequential) (x .inputs) [] m r ≡ got l n q
             → primitive k s ≡ bind (keyword (bytes "endprimitive") n q) (λ v. give (tableOf w x l))
         unfolding _>>=_
         primitive-rows l n q h = primitive-body ∙ rw (g, h)
 
 -- ---- the head in the area
 
-pub name-short : Gives (λ (w : Named). length (w .spelt) ≤ nameLimit) name
+name-short : Gives (λ (w : Named). length (w .spelt) ≤ nameLimit) name
 unfolding name
 name-short = past _ (λ u. past _ (λ p. past _ (λ w. checked _ _ _ _ (λ t. given _ (leb-true _ _ t)))))
 
-pub head-few : Gives (λ (h : Head). h .inputs ≤ inputLimit) head
+head-few : Gives (λ (h : Head). h .inputs ≤ inputLimit) head
 unfolding head
 head-few = after port-list-few (λ h f. past _ (λ d. given _ (f .1)))
 
@@ -99,14 +102,14 @@ module _ (w : Named) (x : Head) (short : length (w .spelt) ≤ nameLimit) (few :
   abbrev begun : Table
   begun = headOf (w .spelt) (x .sequential) (x .inputs) (x .start)
 
-  pub head-drawn : (a : List ℕ) → length a ≡ areaSize → d ≡ headWritten a begun → d ≡ encode begun
+  head-drawn : (a : List ℕ) → length a ≡ areaSize → d ≡ headWritten a begun → d ≡ encode begun
   unfolding headWritten headFits headOf
   head-drawn a long e = e ∙ rw (eq-eqb (length a) areaSize long, le-leb (length (w .spelt)) nameLimit short, le-leb (x .inputs) inputLimit few)
 
-  pub head-ready : d ≡ encode begun → Begun d (x .inputs)
+  head-ready : d ≡ encode begun → Begun d (x .inputs)
   head-ready e = rw e (head-begun (w .spelt) (x .sequential) (x .inputs) (x .start) short few)
 
-  pub table-drawn : d ≡ encode begun → (l : List Row) → encode (withRows (decode d) l) ≡ encode (tableOf w x l)
+  table-drawn : d ≡ encode begun → (l : List Row) → encode (withRows (decode d) l) ≡ encode (tableOf w x l)
   unfolding tableOf headOf
   table-drawn e l =
       let s : Shaped begun = record { bounded = record { name = short; inputs = few; rows = omega arith }; columns = λ i g. absurd (omega arith) } in
@@ -114,7 +117,7 @@ module _ (w : Named) (x : Head) (short : length (w .spelt) ≤ nameLimit) (few :
 
 -- ---- the last word, and the answer
 
-pub last-word : {A : Type 0} (t : List ℕ) (f : ℕ → ℕ → A) (b : Table) (d : List ℕ) (z : Step) → encode b ≡ d
+last-word : {A : Type 0} (t : List ℕ) (f : ℕ → ℕ → A) (b : Table) (d : List ℕ) (z : Step) → encode b ≡ d
     → drawn encode (bind (meant t f z) (λ v. give b)) ≡ meant t (λ x e. d) z
 last-word t f b d (At x e) q = rw q
 last-word t f b d (Refused c p) q = refl
@@ -130,3 +133,54 @@ copied d a e = rw (take-length, drop-of-length-le a {i = length d} (omega arith)
 
 pub out-same : {r : Reading} {a b : List ℕ} → a ≡ b → out r a ≡ out r b
 out-same e = rw e
+
+-- ---- the primitive as it is drawn
+
+module _ (t : List ℕ) (at : ℕ) (f : ℕ → ℕ → List ℕ) (s : Step) (opens : keyword (bytes "primitive") at (drop at t) ≡ meant t f s) where
+  abbrev Draws : List ℕ → Step → Type 0
+  Draws d z = drawn encode (primitive at (drop at t)) ≡ meant t (λ x e. d) z
+
+  pub word-refused : (c p : ℕ) → s ≡ Refused c p → (d : List ℕ) → Draws d s
+  word-refused c p e d = rw (primitive-first at (drop at t) c p (rw e at opens), e)
+
+  module _ (x i : ℕ) (here : s ≡ At x i) (w : Step) (calls : name i (drop i t) ≡ meant t (named t) w) where
+    said-word : keyword (bytes "primitive") at (drop at t) ≡ got (f x i) i (drop i t)
+    said-word = rw here at opens
+
+    pub name-refused : (c p : ℕ) → w ≡ Refused c p → (d : List ℕ) → Draws d w
+    name-refused c p e d = rw (primitive-name at (drop at t) _ _ _ said-word c p (rw e at calls), e)
+
+    module _ (b j : ℕ) (there : w ≡ At b j) (h : HeadStep) (heads : head j (drop j t) ≡ means t (λ y. y) h) where
+      said-name : name i (drop i t) ≡ got (named t b j) j (drop j t)
+      said-name = rw there at calls
+
+      pub head-refused : (c p : ℕ) → h ≡ HeadRefused c p → (z : Step) → z ≡ raised h → (d : List ℕ) → Draws d z
+      head-refused c p e z q d = rw (primitive-head at (drop at t) _ _ _ said-word _ _ _ said-name c p (rw e at heads), q, e)
+
+      module _ (y : Head) (m : ℕ) (behind : h ≡ HeadAt y m) (a d v : List ℕ) (long : length a ≡ areaSize) (same : v ≡ part t b j)
+          (written : d ≡ headWritten a (headOf v (y .sequential) (y .inputs) (y .start))) where
+        said-head : head j (drop j t) ≡ got y m (drop m t)
+        said-head = rw behind at heads
+
+        short : length (part t b j) ≤ nameLimit
+        short = rw said-name at (name-short .post i (drop i t))
+
+        few : y .inputs ≤ inputLimit
+        few = rw said-head at (head-few .post j (drop j t))
+
+        ready : d ≡ encode (headOf (part t b j) (y .sequential) (y .inputs) (y .start))
+        ready = head-drawn (named t b j) y short few d a long (rw same at written)
+
+        pub head-begins : Begun d (y .inputs)
+        head-begins = head-ready (named t b j) y short few d ready
+
+        module _ (r : Step) (o : List ℕ) (follow : drawn (λ l. encode (withRows (decode d) l)) (rows rowLimit (y .sequential) (y .inputs) [] m (drop m t)) ≡ meant t (λ x e. o) r) where
+          pub rows-refused : (c p : ℕ) → r ≡ Refused c p → Draws o r
+          rows-refused c p e =
+              rw (primitive-stop at (drop at t) _ _ _ said-word _ _ _ said-name _ _ _ said-head c p (drawn-refused _ (rows rowLimit (y .sequential) (y .inputs) [] m (drop m t)) c p (rw e at follow)), e)
+
+          pub primitive-drawn : (x n : ℕ) → r ≡ At x n → (g : ℕ → ℕ → List ℕ) (z : Step) → keyword (bytes "endprimitive") n (drop n t) ≡ meant t g z → Draws o z
+          primitive-drawn x n e g z ends =
+              let l = drawn-got _ (rows rowLimit (y .sequential) (y .inputs) [] m (drop m t)) o n (drop n t) (rw e at follow) in
+              rw (primitive-rows at (drop at t) _ _ _ said-word _ _ _ said-name _ _ _ said-head (l .0) n (drop n t) (l .1), ends)
+              (last-word t g (tableOf (named t b j) y (l .0)) o z (sym (table-drawn (named t b j) y short few d ready (l .0)) ∙ l .2))
