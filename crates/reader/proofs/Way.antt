@@ -1,5 +1,6 @@
 -- The way back meets every entry, from the last to the first. Assumes nothing.
 use mathlib.Core.Path.{_≡_, refl, sym, ap, ap₂, _∙_}
+use mathlib.Core.Logic.{_≢_}
 use mathlib.Core.Bool.{Bool, true, false, cond}
 use mathlib.Core.List.{List, [], _∷_, _++_, append-assoc}
 use Prim.Native.Nat.{ℕ, zero, suc, _+_, _-_, _*_, _/_, _%_, _≤_, _<_}
@@ -14,6 +15,7 @@ use Rattle.files.proofs.Parts.{between-mid}
 use Rattle.verdict.specs.Verdict as words
 use Rattle.entry.specs.Entry.{space, digitOf, fields, trailer, entry}
 use Rattle.entry.specs.Handed.{Handed, verdictOf, fitsLayout}
+use Rattle.line.specs.declared.Told.{Told}
 use Rattle.line.specs.Told.{toldBy, isEntry}
 use Rattle.line.proofs.Round.{entry-is, told-entry}
 use Rattle.book.specs.declared.Fetched.{Fetched}
@@ -28,6 +30,33 @@ start-less f at h = go (ltb (pointed f at) at) refl
     go : (b : Bool) → ltb (pointed f at) at ≡ b → cond b (pointed f at) 0 < at
     go true e = ltb-true (pointed f at) at e
     go false e = h
+
+-- the entry that ends at a place, case by case
+module _ (f : List ℕ) (at : ℕ) where
+  pub before-none : at ≡ 0 → Refused 16 0 ≡ fetchedBefore f at
+  unfolding fetchedBefore
+  before-none e = rw (eq-eqb at 0 e)
+
+  module _ (some : at ≢ 0) where
+    pub before-past : length f < at → Refused 16 0 ≡ fetchedBefore f at
+    unfolding fetchedBefore
+    before-past l = rw (ne-eqb at 0 some, lt-ltb (length f) at l)
+
+    module _ (fits : at ≤ length f) (s : ℕ) (e : s ≡ startBefore f at) where
+      pub before-torn : getD f (at - 1) 0 ≢ LF → Refused 13 s ≡ fetchedBefore f at
+      unfolding fetchedBefore
+      before-torn n = rw (ne-eqb at 0 some, le-ltb (length f) at fits, ne-eqb (getD f (at - 1) 0) LF n, e)
+
+      module _ (ends : getD f (at - 1) 0 ≡ LF) (b : Bool) (i : b ≡ isEntry s (between s (at - 1) f)) where
+        said-there : (r : Fetched) → cond b (Entry (entryAt s (toldBy (between s (at - 1) f)))) (Refused 13 s) ≡ r → r ≡ fetchedBefore f at
+        unfolding fetchedBefore
+        said-there r q = sym q ∙ rw (ne-eqb at 0 some, le-ltb (length f) at fits, eq-eqb (getD f (at - 1) 0) LF ends, i, e)
+
+        pub before-entry : b ≡ true → (t : Told) → t ≡ toldBy (between s (at - 1) f) → Entry (entryAt s t) ≡ fetchedBefore f at
+        before-entry h t q = said-there _ (rw (h, q))
+
+        pub before-other : b ≡ false → Refused 13 s ≡ fetchedBefore f at
+        before-other h = said-there _ (rw h)
 
 first-figure : (s : ℕ) → s < 100000 → digitOf (s / 10000) - 48 ≡ s / 10000
 first-figure s h = omega arith

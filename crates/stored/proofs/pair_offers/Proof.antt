@@ -1,7 +1,6 @@
 use lib.Bits.{and-le-r}
-use Rattle.stored.proofs.Offers.{from-zero, from-one, from-x, from-binary, from-any}
+use Rattle.stored.proofs.Offers.{from-zero, from-one, from-x, from-binary, from-rest}
 use Rattle.stored.specs.Stored.{levelOf}
-use borrow.Author.Tests.{ne-eqb}
 use native.Mathlib.Omega.{arith}
 use borrow.Author.Needs.{needs}
 use Rattle.stored.proofs.pair_offers.Statement.{statement}
@@ -23,4 +22,4 @@ pair-offers-spec =
     (λ c. rw (c .match .keys2, c .before .level-offers .ensures) (from-one (levelOf (c .before .before .args .c))))
     (λ c. rw (c .match .keys3, c .before .level-offers .ensures) (from-x (levelOf (c .before .before .args .c))))
     (λ c. rw (c .match .keys4, c .before .level-offers .ensures) (from-binary (levelOf (c .before .before .args .c))))
-    (λ c. rw (c .before .level-offers .ensures, ne-eqb _ _ (c .match .rest .0 .0 .0 .1), ne-eqb _ _ (c .match .rest .0 .0 .1), ne-eqb _ _ (c .match .rest .0 .1), ne-eqb _ _ (c .match .rest .1)) (from-any (levelOf (c .before .before .args .c)))))
+    (λ c. from-rest _ _ _ (c .before .level-offers .ensures) (c .match .rest .0 .0 .0 .1) (c .match .rest .0 .0 .1) (c .match .rest .0 .1) (c .match .rest .1)))
