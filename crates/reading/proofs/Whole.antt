@@ -7,7 +7,7 @@ use native.Mathlib.Omega.{arith}
 use lib.ListN.{length, take, drop, drop-of-length-le}
 use lib.Seq.{drop-cons, take-length}
 use borrow.Author.Tests.{eq-eqb, le-leb, leb-true}
-use Rattle.base.specs.Limits.{inputLimit, nameLimit, rowLimit}
+use Rattle.base.specs.Limits.{inputLimit, nameLimit, rowLimit, textLimit}
 use Rattle.value.specs.declared.Ternary.{Ternary}
 use Rattle.table.specs.Places.{areaSize}
 use Rattle.table.specs.Table.{Row, Table, Shaped}
@@ -15,21 +15,22 @@ use Rattle.table.specs.Area.{encode, decode}
 use Rattle.table.proofs.Encoding.{decode-encode}
 use Rattle.writing.specs.Written.{headOf, headFits, headWritten}
 use Rattle.text.specs.Bytes.{bytes}
-use Rattle.text.specs.Reader.{Result, got, refused, Reader, bind, _>>=_, _>>_, give, keyword, Named, name}
+use Rattle.text.specs.Reader.{Result, got, refused, Reader, bind, _>>=_, _>>_, give, skip, keyword, Named, name}
 use Rattle.text.specs.Places.{meant, named, part}
 use Rattle.text.specs.declared.Step.{Step}
 use Rattle.text.specs.declared.Step.the-variants.{At, Refused}
 use Rattle.grammar.specs.Header.{Ports, Declared, portList, declared}
 use Rattle.grammar.specs.Rows.{rows}
-use Rattle.grammar.specs.Reading.{primitive, end, outcome, orEnd}
+use Rattle.grammar.specs.Reading.{primitive, end, outcome, orEnd, read}
 use Rattle.grammar.proofs.Post.{Gives, after, past, given, checked}
 use Rattle.grammar.proofs.Gives.{port-list-few}
 use Rattle.header.specs.declared.Head.{Head}
 use Rattle.header.specs.declared.HeadStep.{HeadStep}
 use Rattle.header.specs.declared.HeadStep.the-variants.{At as HeadAt, Refused as HeadRefused}
 use Rattle.header.specs.Heads.{head, headWith, means, raised}
-use Rattle.reading.specs.Told.{out, drawn, withRows, Begun}
+use Rattle.reading.specs.Told.{out, told, readInto, refusalOf, drawn, withRows, Begun}
 use Rattle.reading.specs.declared.Reading.{Reading}
+use Rattle.reading.specs.declared.Reading.the-variants.{Table as TableAt, End}
 use Rattle.reading.proofs.Binds.{drawn-got, drawn-refused}
 use Rattle.reading.proofs.Drawing.{head-begun}
 
@@ -122,17 +123,14 @@ last-word : {A : Type 0} (t : List ℕ) (f : ℕ → ℕ → A) (b : Table) (d :
 last-word t f b d (At x e) q = rw q
 last-word t f b d (Refused c p) q = refl
 
-pub begins-there : (t : List ℕ) (i : ℕ) → i < length t → orEnd (got tt i (drop i t)) ≡ outcome (primitive i (drop i t))
+begins-there : (t : List ℕ) (i : ℕ) → i < length t → orEnd (got tt i (drop i t)) ≡ outcome (primitive i (drop i t))
 begins-there t i h = rw (drop-cons t i 0 h)
 
-pub ends-there : (t : List ℕ) (i : ℕ) → length t ≤ i → orEnd (got tt i (drop i t)) ≡ end
+ends-there : (t : List ℕ) (i : ℕ) → length t ≤ i → orEnd (got tt i (drop i t)) ≡ end
 ends-there t i h = rw (drop-of-length-le t h)
 
-pub copied : (d a : List ℕ) → length a ≡ length d → take (length d) d ++ drop (length d) a ≡ d
+copied : (d a : List ℕ) → length a ≡ length d → take (length d) d ++ drop (length d) a ≡ d
 copied d a e = rw (take-length, drop-of-length-le a {i = length d} (omega arith), append-nil)
-
-pub out-same : {r : Reading} {a b : List ℕ} → a ≡ b → out r a ≡ out r b
-out-same e = rw e
 
 -- ---- the primitive as it is drawn
 
@@ -184,3 +182,23 @@ module _ (t : List ℕ) (at : ℕ) (f : ℕ → ℕ → List ℕ) (s : Step) (op
               let l = drawn-got _ (rows rowLimit (y .sequential) (y .inputs) [] m (drop m t)) o n (drop n t) (rw e at follow) in
               rw (primitive-rows at (drop at t) _ _ _ said-word _ _ _ said-name _ _ _ said-head (l .0) n (drop n t) (l .1), ends)
               (last-word t g (tableOf (named t b j) y (l .0)) o z (sym (table-drawn (named t b j) y short few d ready (l .0)) ∙ l .2))
+
+-- ---- the call
+
+module _ (t : List ℕ) (start : ℕ) (area : List ℕ) (size : length area ≡ areaSize) (short : length t ≤ textLimit) (inside : start ≤ length t)
+    (i : ℕ) (blank : skip start (drop start t) ≡ got tt i (drop i t)) where
+  said-from : readInto t start area ≡ told area (orEnd (got tt i (drop i t)))
+  unfolding readInto read
+  said-from = rw (eq-eqb (length area) areaSize size, le-leb (length t) textLimit short, le-leb start (length t) inside, blank)
+
+  pub read-end : length t ≤ i → readInto t start area ≡ out End area
+  read-end h = rw (said-from, ends-there t i h)
+
+  module _ (more : i < length t) (d : List ℕ) (s : Step) (one : drawn encode (primitive i (drop i t)) ≡ meant t (λ x e. d) s) where
+    pub read-refused : (c p : ℕ) → s ≡ Refused c p → (r : Reading) → r ≡ refusalOf s → readInto t start area ≡ out r area
+    read-refused c p e r q = rw (said-from, begins-there t i more, drawn-refused encode (primitive i (drop i t)) c p (rw e at one), q, e)
+
+    pub read-table : (x e : ℕ) → s ≡ At x e → length area ≡ length d → (b : List ℕ) → b ≡ take (length d) d ++ drop (length d) area → readInto t start area ≡ out (TableAt e) b
+    read-table x e q same b w =
+        let l = drawn-got encode (primitive i (drop i t)) d e (drop e t) (rw q at one) in
+        rw (said-from, begins-there t i more, l .1, l .2, w, copied d area same)
