@@ -7,10 +7,11 @@ use native.Mathlib.Omega.{arith}
 use lib.ListN.{length, getD, take, length-append}
 use lib.Seq.{take-append-seam}
 use Rattle.base.specs.Limits.{bookLimit}
-use Rattle.files.specs.Files.{whole, good}
+use Rattle.files.specs.Files.{good, Cut}
 use Rattle.entry.specs.Entry.{entry}
 use Rattle.entry.specs.Handed.{Handed, verdictOf}
 use Rattle.book.specs.declared.Opened.the-variants as open-book
+use Rattle.book.specs.declared.Appended.the-variants.{Stated, Refused}
 use Rattle.book.specs.declared.Entry.{Entry}
 use Rattle.book.specs.declared.Fetched.the-variants as fetch
 use Rattle.book.specs.Book.{opened, appended, fetched}
@@ -18,21 +19,24 @@ use Rattle.book.specs.Runs.{bookOf, AllFit, none-left, Event, append, ap
 use Rattle.book.proofs.Once.{refused-same}
 use Rattle.book.proofs.Kept.{Kept, kept-book, place-good, found, kept-opened, kept-fetched, kept-whole, kept-more, kept-cut}
 
+-- what an append that is not refused, a refused one, and a cut leave
+module _ (f : List ℕ) (hs : List Handed) (k : Kept f hs) (rest : List ℕ) (h : Handed) where
+  left-whole : (m : ℕ) → appended (f ++ rest) (length f) h .answer ≡ Stated m → Kept (take m (appended (f ++ rest) (length f) h .bytes)) (hs ++ (h ∷ []))
+  left-whole m e = rw (kept-whole f hs k rest h m e) (kept-more f hs k rest h m e)
+
+  left-same : (n p : ℕ) → appended (f ++ rest) (length f) h .answer ≡ Refused n p → Kept (take (length f) (appended (f ++ rest) (length f) h .bytes)) hs
+  left-same n p e = rw (refused-same (f ++ rest) (length f) h n p e, take-append-seam f rest) k
+
+  left-cut : (m : ℕ) (g : List ℕ) → appended (f ++ rest) (length f) h .answer ≡ Stated m → Cut f (entry (good f) (verdictOf h)) g → Kept g hs
+  left-cut m g e c = kept-cut f hs k rest h m g e (rw (place-good f hs k rest) at c)
+
 -- what a run keeps up
 pub run-kept : {base : List Handed} {es : List Event} {f : List ℕ} → AllFit base → length (bookOf base) ≤ bookLimit → Run base es f → Kept f (stored base es)
 run-kept {base} v l begin = kept-book base v l
-run-kept {base} v l (appends {es} {f} h rest m r e) =
-    let k : Kept f (stored base es) = run-kept v l r in
-    rw (kept-whole f (stored base es) k rest h m e) (kept-more f (stored base es) k rest h m e)
-run-kept {base} v l (refuses {es} {f} h rest n p r e) =
-    let k : Kept f (stored base es) = run-kept v l r in
-    rw (refused-same (f ++ rest) (length f) h n p e, take-append-seam f rest) k
-run-kept {base} v l (cuts-before {es} {f} h rest m g r e c) =
-    let k : Kept f (stored base es) = run-kept v l r in
-    kept-cut f (stored base es) k rest h m g e (rw (place-good f (stored base es) k rest) at c)
-run-kept {base} v l (cuts-after {es} {f} h rest m r e) =
-    let k : Kept f (stored base es) = run-kept v l r in
-    rw (kept-whole f (stored base es) k rest h m e) (kept-more f (stored base es) k rest h m e)
+run-kept {base} v l (appends {es} {f} h rest m r e) = left-whole f (stored base es) (run-kept v l r) rest h m e
+run-kept {base} v l (refuses {es} {f} h rest n p r e) = left-same f (stored base es) (run-kept v l r) rest h n p e
+run-kept {base} v l (cuts-before {es} {f} h rest m g r e c) = left-cut f (stored base es) (run-kept v l r) rest h m g e c
+run-kept {base} v l (cuts-after {es} {f} h rest m r e) = left-whole f (stored base es) (run-kept v l r) rest h m e
 run-kept v l (reopens r) = run-kept v l r
 
 module _ {base : List Handed} {es : List Event} {f : List ℕ} (v : AllFit base) (l : length (bookOf base) ≤ bookLimit) (r : Run base es f) (rest : List ℕ) where

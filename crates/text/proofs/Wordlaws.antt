@@ -12,9 +12,13 @@ use borrow.Author.Tests.{lt-leb, le-leb, eqb-true}
 use Rattle.base.proofs.Bools.{lt-or-ge, both, clash}
 use lib.ListN.{take, drop, length, getD, length-drop, drop-of-length-le}
 use lib.Seq.{drop-cons, drop-drop, take-all, take-nil}
+use Rattle.base.specs.Limits.{nameLimit}
 use Rattle.text.specs.Bytes.{starts, inName}
-use Rattle.text.specs.Reader.{Result, got, refused, run, with}
-use Rattle.text.specs.Places.{part}
+use Rattle.text.specs.Blanks.{endless}
+use Rattle.text.specs.Reader.{Result, got, refused, _>>=_, check, skip, run, with, word, name}
+use Rattle.text.specs.Places.{meant, part, named}
+use Rattle.text.specs.declared.Step.{Step}
+use Rattle.text.specs.declared.Step.the-variants.{At, Refused}
 use Rattle.text.specs.Words.{same, member, keywords, allInName, isName}
 
 module _ (a b : List ℕ) (i : ℕ) where
@@ -169,3 +173,38 @@ module _ (t : List ℕ) (i e : ℕ) (r : run i (drop i t) ≡ got (part t i e) e
     where
       first-at : getD (drop i t) 0 0 ≡ getD t i 0
       first-at = rw (drop-cons t i 0 (word-in h))
+
+-- a name that is read, case by case
+module _ (t : List ℕ) (at i : ℕ) (blank : skip at (drop at t) ≡ got tt i (drop i t)) (e : ℕ) (r : run i (drop i t) ≡ got (part t i e) e (drop e t)) where
+  abbrev Means : Step → Type 0
+  Means z = name at (drop at t) ≡ meant t (named t) z
+
+  abbrev Faulty : Step → Type 0
+  Faulty z = z ≡ Refused (cond (endless (drop i t)) 2 3) i
+
+  no-name : isName (part t i e) ≡ false → (z : Step) → Faulty z → Means z
+  unfolding name word _>>=_
+  no-name b z q = rw (blank, r, b, q)
+
+  pub name-none : e ≤ i → (z : Step) → Faulty z → Means z
+  name-none h = no-name (word-none t i e r h)
+
+  module _ (some : i < e) (a : Bool) (first : a ≡ starts (getD t i 0)) where
+    pub name-unlike : a ≡ false → (z : Step) → Faulty z → Means z
+    name-unlike h = no-name (word-name t i e r some ∙ rw (← first, h))
+
+    module _ (like : a ≡ true) (w : List ℕ) (cut : w ≡ part t i e) (b : Bool) (known : b ≡ member w keywords) where
+      named-by : isName (part t i e) ≡ not b
+      named-by = word-name t i e r some ∙ rw (← first, like, ← cut, known)
+
+      pub name-keyword : b ≡ true → (z : Step) → Faulty z → Means z
+      name-keyword h = no-name (named-by ∙ ap not h)
+
+      module _ (free : b ≡ false) where
+        pub name-there : length w ≤ nameLimit → Means (At i e)
+        unfolding name word check _>>=_
+        name-there h = rw (blank, r, named-by, free, le-leb (length (part t i e)) nameLimit (rw cut at h))
+
+        pub name-long : nameLimit < length w → Means (Refused 4 i)
+        unfolding name word check _>>=_
+        name-long h = rw (blank, r, named-by, free, lt-leb (length (part t i e)) nameLimit (rw cut at h))
