@@ -163,7 +163,7 @@ fn fits_column(w: Token, edge: bool) -> bool
     ensures { λ r. ⌜ r ≡ isSome (columnOf edge (writtenAs w)) ⌝ }
 {
     match w {
-        Token::Entry(s) => stored::is_possible(s) & (edge | !symbol::is_edge(s)),
+        Token::Entry(s) => offers::is_possible(s) & (edge | !symbol::is_edge(s)),
         Token::Dash => false,
     }
 }

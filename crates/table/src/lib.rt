@@ -120,13 +120,13 @@ pub fn offers_in(a: &[u8], i: usize, k: usize) -> u16
     ensures { λ r. ⌜ r ≡ offers (symbolAt (rowAt (decode (now (a .entry))) i) k) ⌝ }
 {
     if rows(a) <= i {
-        return stored::level_offers(b'?');
+        return offers::level_offers(b'?');
     }
     if inputs(a) <= k {
-        return stored::level_offers(b'?');
+        return offers::level_offers(b'?');
     }
     let at = ROWS_AT + i * ROW_SIZE;
-    stored::offers_of(byte_at(a, at + 2 * k), byte_at(a, at + (2 * k + 1)))
+    offers::offers_of(byte_at(a, at + 2 * k), byte_at(a, at + (2 * k + 1)))
 }
 
 // The same for the state.
@@ -134,9 +134,9 @@ pub fn state_offers(a: &[u8], i: usize) -> u16
     ensures { λ r. ⌜ r ≡ offers (Held (rowAt (decode (now (a .entry))) i .state)) ⌝ }
 {
     if rows(a) <= i {
-        return stored::level_offers(b'?');
+        return offers::level_offers(b'?');
     }
-    stored::level_offers(byte_at(a, ROWS_AT + i * ROW_SIZE + STATE_AT))
+    offers::level_offers(byte_at(a, ROWS_AT + i * ROW_SIZE + STATE_AT))
 }
 
 pub fn state_in(a: &[u8], i: usize) -> Level

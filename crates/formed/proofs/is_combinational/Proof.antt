@@ -1,5 +1,5 @@
 use borrow.Author.Needs.{needs}
-use Rattle.stored.proofs.Offers.{any-offers}
+use Rattle.offers.proofs.Offers.{any-offers}
 use Rattle.table.specs.Area.{decode}
 use Rattle.table.specs.Table.{rowAt}
 use Rattle.formed.specs.Tests.{combinational}

@@ -1,11 +1,11 @@
 use Rattle.value.specs.Value.{sameValue, rankOf, valueOf}
 use Rattle.symbol.specs.Match.{offered, matchHeld, matchChange, matchEdge, matchLevel}
 use Rattle.symbol.specs.Masks.{offers, maskOf, maskFrom}
 use Rattle.stored.specs.Stored.{letterOf}
 use borrow.Author.Tests.{ne-eqb}
 use borrow.Author.Needs.{needs}
-use Rattle.stored.proofs.letter_offers.Statement.{statement}
-use Rattle.stored.proofs.letter_offers.Tie as tie
+use Rattle.offers.proofs.letter_offers.Statement.{statement}
+use Rattle.offers.proofs.letter_offers.Tie as tie
 
 pub letter-offers-spec : {M : Type 1} → statement M
 unfolding sameValue rankOf valueOf offered matchHeld matchChange matchEdge matchLevel offers maskOf maskFrom letterOf

@@ -5,8 +5,8 @@ use borrow.Author.Needs.{needs}
 use lib.ListN.{length}
 use Rattle.keeping.specs.Keeping.{Holds}
 use Rattle.keeping.proofs.Growing.{begun}
-use Rattle.keeper.proofs.go_through.Statement.{statement}
-use Rattle.keeper.proofs.go_through.Tie as tie
+use Rattle.run.proofs.go_through.Statement.{statement}
+use Rattle.run.proofs.go_through.Tie as tie
 
 abbrev Inv-loop : tie.InvT-loop
 Inv-loop file path text area₀ book₀ good total start₀ at₀ k₀ area book start at k =

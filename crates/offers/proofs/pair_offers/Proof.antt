@@ -1,10 +1,10 @@
 use lib.Bits.{and-le-r}
-use Rattle.stored.proofs.Offers.{from-zero, from-one, from-x, from-binary, from-rest}
+use Rattle.offers.proofs.Offers.{from-zero, from-one, from-x, from-binary, from-rest}
 use Rattle.stored.specs.Stored.{levelOf}
 use native.Mathlib.Omega.{arith}
 use borrow.Author.Needs.{needs}
-use Rattle.stored.proofs.pair_offers.Statement.{statement}
-use Rattle.stored.proofs.pair_offers.Tie as tie
+use Rattle.offers.proofs.pair_offers.Statement.{statement}
+use Rattle.offers.proofs.pair_offers.Tie as tie
 
 pub pair-offers-spec : {M : Type 1} → statement M
 unfolding levelOf

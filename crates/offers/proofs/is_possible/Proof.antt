@@ -1,10 +1,10 @@
 use mathlib.Core.Path.{_≡_, sym}
 use Rattle.symbol.specs.Masks.{offers}
 use Rattle.symbol.proofs.Offers.{possible-offers}
 use Rattle.stored.proofs.Stores.{symbol-of-bytes}
 use borrow.Author.Needs.{needs}
-use Rattle.stored.proofs.is_possible.Statement.{statement}
-use Rattle.stored.proofs.is_possible.Tie as tie
+use Rattle.offers.proofs.is_possible.Statement.{statement}
+use Rattle.offers.proofs.is_possible.Tie as tie
 
 pub is-possible-spec : {M : Type 1} → statement M
 is-possible-spec =

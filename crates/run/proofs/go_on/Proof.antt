@@ -1,7 +1,7 @@
 use Rattle.keeping.proofs.Growing.{kept-goes, added-goes}
 use borrow.Author.Needs.{needs}
-use Rattle.keeper.proofs.go_on.Statement.{statement}
-use Rattle.keeper.proofs.go_on.Tie as tie
+use Rattle.run.proofs.go_on.Statement.{statement}
+use Rattle.run.proofs.go_on.Tie as tie
 
 pub go-on-spec : {M : Type 1} → statement M
 go-on-spec =

@@ -6,12 +6,12 @@ use mathlib.Core.List.{List}
 use lib.ListN.{length}
 use Rattle.grammar.specs.Reading.{end, read}
 use Rattle.keeping.specs.Keeping.{Holds}
-use Rattle.keeper.specs.declared.Held.{Held}
-use Rattle.keeper.specs.declared.Held.the-variants.{To, Failed}
-use Rattle.keeper.specs.declared.Went.{Went}
-use Rattle.keeper.specs.declared.Went.the-variants as went
-use Rattle.keeper.specs.declared.Ran.{Ran}
-use Rattle.keeper.specs.declared.Ran.the-variants as ran
+use Rattle.run.specs.declared.Held.{Held}
+use Rattle.run.specs.declared.Held.the-variants.{To, Failed}
+use Rattle.run.specs.declared.Went.{Went}
+use Rattle.run.specs.declared.Went.the-variants as went
+use Rattle.run.specs.declared.Ran.{Ran}
+use Rattle.run.specs.declared.Ran.the-variants as ran
 
 -- a part of an entry from a place up to another: the entry's last byte is stored alone
 abbrev pub Apart : ℕ → ℕ → ℕ → Type 0

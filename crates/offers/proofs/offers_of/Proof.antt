@@ -1,8 +1,8 @@
 use Rattle.stored.specs.Stored.{symbolOf}
 use borrow.Author.Tests.{eq-eqb, ne-eqb}
 use borrow.Author.Needs.{needs}
-use Rattle.stored.proofs.offers_of.Statement.{statement}
-use Rattle.stored.proofs.offers_of.Tie as tie
+use Rattle.offers.proofs.offers_of.Statement.{statement}
+use Rattle.offers.proofs.offers_of.Tie as tie
 
 pub offers-of-spec : {M : Type 1} → statement M
 unfolding symbolOf

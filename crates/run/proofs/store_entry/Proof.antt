@@ -3,8 +3,8 @@ use mathlib.Core.Logic.{inl, inr}
 use Prim.Native.Nat.{_+_}
 use native.Mathlib.Omega.{arith}
 use borrow.Author.Needs.{needs}
-use Rattle.keeper.proofs.store_entry.Statement.{statement}
-use Rattle.keeper.proofs.store_entry.Tie as tie
+use Rattle.run.proofs.store_entry.Statement.{statement}
+use Rattle.run.proofs.store_entry.Tie as tie
 
 pub store-entry-spec : {M : Type 1} → statement M
 store-entry-spec =

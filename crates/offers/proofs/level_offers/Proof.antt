@@ -1,10 +1,10 @@
 use Rattle.value.specs.Value.{sameValue, rankOf, valueOf}
 use Rattle.symbol.specs.Match.{offered, matchHeld, matchChange, matchEdge, matchLevel}
 use Rattle.symbol.specs.Masks.{offers, maskOf, maskFrom}
 use Rattle.stored.specs.Stored.{levelOf}
 use borrow.Author.Tests.{ne-eqb}
-use Rattle.stored.proofs.level_offers.Statement.{statement}
-use Rattle.stored.proofs.level_offers.Tie as tie
+use Rattle.offers.proofs.level_offers.Statement.{statement}
+use Rattle.offers.proofs.level_offers.Tie as tie
 
 pub level-offers-spec : {M : Type 1} → statement M
 unfolding sameValue rankOf valueOf offered matchHeld matchChange matchEdge matchLevel offers maskOf maskFrom levelOf
