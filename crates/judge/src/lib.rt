@@ -60,11 +60,8 @@ fn pair_first(
     if n <= j {
         return c;
     }
-    // The search of so few vectors is as fast as the test.
-    if 2 < n {
-        if agrees(s, all, outs, n, m, i, j) {
-            return c;
-        }
+    if agrees(s, all, outs, n, m, i, j) {
+        return c;
     }
     pair::first_difference(s, all, outs, n, m, i, j)
 }

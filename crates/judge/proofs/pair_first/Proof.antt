@@ -12,10 +12,10 @@ pair-first-spec =
     (λ c. omega arith)
     (λ c. (λ t G. c .before .pre .2 ∙ rw (G .inputs-are) (sym (no-pair t _ _ (omega arith))), λ h. absurd (omega arith)))
     (λ c. (λ t G. c .before .before .pre .2 ∙ rw (G .inputs-are) (sym (past-pair t _ _ (omega (arith, G .inputs-are)))), λ h. absurd (omega arith)))
-    (λ c κs. (omega arith, omega arith, omega arith, omega arith, c .before .before .before .pre .4))
+    (λ c κs. (omega arith, omega arith, omega arith, omega arith, c .before .before .pre .4))
     (λ c.
     let p = c .before in (
-      λ t G. p .before .before .before .before .pre .2 ∙ rw (G .inputs-are) (sym (agreed t _ _ (omega arith) (omega (arith, G .inputs-are)) (p .agrees .ensures t G .sound (c .if4 .taken)))),
+      λ t G. p .before .before .before .pre .2 ∙ rw (G .inputs-are) (sym (agreed t _ _ (omega arith) (omega (arith, G .inputs-are)) (p .agrees .ensures t G .sound (c .if3 .taken)))),
       λ h. absurd (omega arith),
     ))
     (λ c κs. (omega arith, omega arith, omega arith, omega arith))
