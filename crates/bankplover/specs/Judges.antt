@@ -7,7 +7,7 @@ use lib.ListN.{length, getD}
 use Rattle.base.specs.Listed.{listed}
 use Rattle.formed.specs.Tests.{wellFormed}
 use Rattle.table.specs.Area.{decode}
-use Rattle.evaluation.specs.Step.{stepOf}
+use Rattle.step.specs.Step.{stepOf}
 use Rattle.verdict.specs.declared.Finding.{Finding}
 use Rattle.judge.specs.Judge.{RightFinding, squareFor}
 use Rattle.reading.specs.declared.Reading.{Reading}

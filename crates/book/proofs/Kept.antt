@@ -12,7 +12,7 @@ use lib.Seq.{take-append-seam, drop-append-seam, take-append-le}
 use Rattle.base.specs.Limits.{bookLimit}
 use Rattle.files.specs.Parts.{Without, join, split, afterMark, partAt}
 use Rattle.files.specs.Files.{LF, good, whole, Cut}
-use Rattle.files.proofs.Parts.{Clean, none, more, split-join, part-in, after-join, part-join}
+use Rattle.files.proofs.Parts.{Clean, none, more, split-join, part-in, after-join, part-join, join-snoc}
 use Rattle.files.proofs.Files.{Held, held-good, held-whole, held-cut, held-lines, after-append, length-whole}
 use Rattle.entry.specs.Entry.{entry}
 use Rattle.entry.specs.Handed.{Handed, verdictOf, fitsLayout}
@@ -57,6 +57,10 @@ lines-snoc s (a ∷ hs) h n e =
     let b : List ℕ = entry s (verdictOf a) in
     ap (λ (l : List (List ℕ)). b ∷ l) (lines-snoc (s + suc (length b)) hs h n (omega (arith, joined b (linesFrom (s + suc (length b)) hs))))
 
+-- a verdict more is a line more
+pub book-snoc : (s : ℕ) (hs : List Handed) (h : Handed) (n : ℕ) → n ≡ s + length (join LF (linesFrom s hs)) → join LF (linesFrom s (hs ++ (h ∷ []))) ≡ join LF (linesFrom s hs) ++ lineOf n h
+book-snoc s hs h n e = ap (join LF) (lines-snoc s hs h n e) ∙ join-snoc LF (linesFrom s hs) (entry n (verdictOf h))
+
 line-at : (s : ℕ) (hs : List Handed) (d : Handed) (k : ℕ) → k < length hs →
     getD (linesFrom s hs) k [] ≡ entry (s + length (join LF (take k (linesFrom s hs)))) (verdictOf (getD hs k d))
 line-at s [] d k h = absurd (omega arith)
@@ -74,7 +78,7 @@ fit-at d k none-left h = absurd (omega arith)
 fit-at d zero (one-fits f fs) h = f
 fit-at d (suc k) (one-fits f fs) h = fit-at d k fs (omega arith)
 
-fit-snoc : {hs : List Handed} (h : Handed) → AllFit hs → fitsLayout h ≡ true → AllFit (hs ++ (h ∷ []))
+pub fit-snoc : {hs : List Handed} (h : Handed) → AllFit hs → fitsLayout h ≡ true → AllFit (hs ++ (h ∷ []))
 fit-snoc h none-left g = one-fits g none-left
 fit-snoc h (one-fits f fs) g = one-fits f (fit-snoc h fs g)
 

@@ -5,7 +5,7 @@ use Rattle.value.specs.Value.{rankOf, sameValue}
 use Rattle.symbol.specs.Match.{matchLevel, matchEdge, matchHeld, matchChange, matchField, resultOf}
 use Rattle.table.specs.Match.{fieldOf, columnsMatch, rowMatches}
 use Rattle.grammar.specs.Reading.{read, readers}
-use Rattle.evaluation.specs.Step.{rowFor, answerOr, answerOf, stepOf}
+use Rattle.step.specs.Step.{rowFor, answerOr, answerOf, stepOf}
 use Rattle.evaluation.specs.Cases as tables
 use Rattle.judge.specs.Cases as judged
 use Rattle.judge.proofs.Checked.{p-findings}

@@ -10,7 +10,7 @@ use Rattle.text.specs.Bytes.{bytes}
 use Rattle.table.specs.Table.{Table}
 use Rattle.grammar.specs.Reading.{read, table}
 use Rattle.orders.specs.Order.{evalOrder}
-use Rattle.evaluation.specs.Step.{stepOf}
+use Rattle.step.specs.Step.{stepOf}
 use Rattle.verdict.specs.declared.Finding.{Finding}
 use Rattle.verdict.specs.declared.Finding.the-variants.{Independent, Dependent}
 use Rattle.judge.specs.Judge.{RightFinding}

@@ -14,10 +14,10 @@ use Rattle.base.proofs.Bools.{clash, lt-or-ge}
 use Rattle.base.proofs.Search.{every-at, every-of, every-same}
 use Rattle.symbol.specs.Masks.{maskOf, maskFrom}
 use Rattle.planes.specs.Words.{bit, Told}
-use Rattle.planes.specs.Paths.{pathOf}
+use Rattle.exchange.specs.Paths.{pathOf}
 use Rattle.planes.proofs.Bits.{bit-and, bit-or, bit-xor, bit-zero, bit-ext, bit-past}
 use Rattle.planes.proofs.Planes.{all-lanes}
-use Rattle.planes.proofs.Composed.{path-bit, same-tests}
+use Rattle.exchange.proofs.Composed.{path-bit, same-tests}
 use Rattle.cube.specs.Lanes.{putBy, Moved}
 use Rattle.cube.specs.Steps.{Tell, sameIn, Differ}
 

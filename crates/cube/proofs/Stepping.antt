@@ -13,13 +13,13 @@ use borrow.Author.Tests.{eqb-true, eqb-false, eq-eqb, ne-eqb}
 use Rattle.table.specs.Table.{Table}
 use Rattle.orders.specs.Digits.{digitOf}
 use Rattle.orders.proofs.Digits.{digit-is, digit-low}
-use Rattle.evaluation.specs.Step.{answerOr}
+use Rattle.step.specs.Step.{answerOr}
 use Rattle.memo.specs.Rows.{allRows, cellAt, restOf, outBy, entryOf}
 use Rattle.planes.specs.Words.{bit, Told}
 use Rattle.planes.specs.Planes.{laneRows, answerIn, answered, orX, Spread, Closed}
 use Rattle.planes.proofs.Bits.{bit-and, bit-or, bit-xor, bit-past}
 use Rattle.planes.proofs.Planes.{all-lanes, level-told, swap, told-same}
-use Rattle.planes.proofs.Entered.{out-rank, entry-low}
+use Rattle.exchange.proofs.Entered.{out-rank, entry-low}
 use Rattle.plain.proofs.Sets.{both-in}
 use Rattle.plain.proofs.Alike as alike
 use Rattle.cube.specs.Lanes.{Zeros, Lanes}

@@ -19,8 +19,8 @@ use Rattle.memo.specs.Rows.{allRows, cellAt, restOf}
 use Rattle.memo.specs.Pair.{othersOf, firstThen, secondThen}
 use Rattle.memo.proofs.Others.{others-comm, others-put, rest-others, digit-same, digit-other}
 use Rattle.planes.specs.Words.{bit}
-use Rattle.planes.specs.Planes.{Agree, Given}
-use Rattle.planes.specs.Pairs.{Tells}
+use Rattle.exchange.specs.Lanes.{Agree, Given}
+use Rattle.exchange.specs.Pairs.{Tells}
 use Rattle.planes.proofs.Planes.{last-of}
 use Rattle.cube.specs.Lanes.{putBy}
 use Rattle.cube.specs.Steps.{Facts, stepIn, Steps, sameIn, Same}

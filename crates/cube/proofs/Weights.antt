@@ -13,8 +13,8 @@ use Rattle.base.specs.Search.{every}
 use Rattle.memo.specs.Rows.{cellAt}
 use Rattle.planes.specs.Words.{bit, Told}
 use Rattle.planes.proofs.Bits.{bit-or}
-use Rattle.planes.proofs.Composed.{picks}
-use Rattle.planes.proofs.Patterns.{digit-words, same, pattern}
+use Rattle.exchange.proofs.Composed.{picks}
+use Rattle.exchange.proofs.Patterns.{digit-words, same, pattern}
 use Rattle.cube.specs.Lanes.{Weight, one, three, nine, Zeros, putBy, Copied, Moved, ColumnLanes}
 use Rattle.cube.proofs.Shifts.{up-and, down-bit, cut-bit}
 

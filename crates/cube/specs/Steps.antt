@@ -11,7 +11,8 @@ use Rattle.table.specs.Table.{Table}
 use Rattle.orders.specs.Digits.{digitOf}
 use Rattle.memo.specs.Rows.{allRows, cellAt, restOf, entryOf}
 use Rattle.planes.specs.Words.{bit, Told}
-use Rattle.planes.specs.Planes.{answerIn, answered, orX, Given}
+use Rattle.planes.specs.Planes.{answerIn, answered, orX}
+use Rattle.exchange.specs.Lanes.{Given}
 use Rattle.cube.specs.Lanes.{putBy}
 
 -- s and outs are the masks and outputs of table t, which has n inputs and the m rows `all`

@@ -7,9 +7,10 @@ ghost use lib.Dec.{eqb};
 ghost use lib.ListN.{length, getD};
 ghost use Rattle.table.specs.Table.{Table};
 ghost use Rattle.memo.specs.Rows.{allRows, cellAt};
-ghost use Rattle.planes.specs.Planes.{Low, Given};
-ghost use Rattle.planes.specs.Pairs.{Tells};
-ghost use Rattle.planes.specs.Paths.{pathOf};
+ghost use Rattle.planes.specs.Planes.{Low};
+ghost use Rattle.exchange.specs.Lanes.{Given};
+ghost use Rattle.exchange.specs.Pairs.{Tells};
+ghost use Rattle.exchange.specs.Paths.{pathOf};
 ghost use Rattle.cube.specs.Lanes.{Weight, Zeros, Copied, Moved, ColumnLanes, RowLanes, Lanes};
 ghost use Rattle.cube.specs.Steps.{Levels, Stays, Step, Steps, Differ, Same};
 

@@ -99,9 +99,6 @@ byte-after h m k r l e = e ∙ ap (λ (f : List ℕ). getD f k 0) (after-three h
 
 -- ---- one byte of a field, the field known
 
-pub byte-is : (l : List (List ℕ)) (f : List ℕ) (m k r : ℕ) → r ≡ getD f k 0 → getD l m [] ≡ f → r ≡ getD (getD l m []) k 0
-byte-is l f m k r e g = e ∙ ap (λ (x : List ℕ). getD x k 0) (sym g)
-
 pub lone-is : (l : List (List ℕ)) (b d m k r : ℕ) → r ≡ getD (d ∷ []) k 0 → d ≡ b → getD l m [] ≡ b ∷ [] → r ≡ getD (getD l m []) k 0
 lone-is l b d m k r e q g = e ∙ ap (λ (x : ℕ). getD (x ∷ []) k 0) q ∙ ap (λ (x : List ℕ). getD x k 0) (sym g)
 

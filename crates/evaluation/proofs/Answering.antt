@@ -10,7 +10,7 @@ use Rattle.value.specs.declared.Ternary.{Ternary}
 use Rattle.table.specs.Area.{decode}
 use Rattle.formed.specs.Tests.{wellFormed}
 use Rattle.orders.specs.Order.{evalOrder}
-use Rattle.evaluation.specs.Step.{stepOf}
+use Rattle.step.specs.Step.{stepOf}
 use Rattle.evaluation.specs.Called.{goodValues, valueIn, vectorIn, padded, firstFault}
 use Rattle.evaluation.specs.Call.{evaluated}
 use Rattle.evaluation.specs.declared.Evaluated.the-variants.{Output, Refused}

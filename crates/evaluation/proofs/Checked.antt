@@ -4,7 +4,7 @@ use Rattle.base.specs.Search.{every, first, firstFrom}
 use Rattle.value.specs.Value.{rankOf, sameValue}
 use Rattle.symbol.specs.Match.{matchLevel, matchEdge, matchHeld, matchChange, matchField, resultOf}
 use Rattle.table.specs.Match.{fieldOf, columnsMatch, rowMatches}
-use Rattle.evaluation.specs.Step.{rowFor, answerOr, answerOf, stepOf}
+use Rattle.step.specs.Step.{rowFor, answerOr, answerOf, stepOf}
 use Rattle.evaluation.specs.Cases.{answered, written}
 
 pub p-cases : answered ≡ written

@@ -24,7 +24,7 @@ use Rattle.table.specs.Table.{Row, Table, rowAt, symbolAt}
 use Rattle.table.specs.Match.{fieldOf, columnsMatch, rowMatches, edgeAt}
 use Rattle.formed.specs.Valid.{Contradict, Valid}
 use Rattle.formed.proofs.Contradiction.{same-output}
-use Rattle.evaluation.specs.Step.{rowFor, answerOr, answerOf}
+use Rattle.step.specs.Step.{rowFor, answerOr, answerOf}
 
 module _ (n : ℕ) (r : Row) (v : List Ternary) (k : ℕ) (from old : Ternary) (m : rowMatches n r v k from old ≡ true) where
   column : (q : ℕ) → q < n → matchField (fieldOf (symbolAt r q) v k from q) ≡ true

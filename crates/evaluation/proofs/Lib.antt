@@ -1,5 +1,3 @@
-pub mod Laws
-pub mod Bridge
 pub mod Choice
 pub mod Saying
 pub mod Answering

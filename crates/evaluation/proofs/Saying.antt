@@ -23,8 +23,8 @@ use Rattle.evaluation.specs.Called.{isValue, goodVector, goodValues, val
 use Rattle.table.specs.Area.{decode}
 use Rattle.formed.specs.Tests.{wellFormed}
 use Rattle.formed.proofs.Exact.{formed-valid}
-use Rattle.evaluation.specs.Step.{stepOf}
-use Rattle.evaluation.proofs.Laws.{Alike, eval-alike}
+use Rattle.step.specs.Step.{stepOf}
+use Rattle.step.proofs.Laws.{Alike, eval-alike}
 
 pub vector-length : (s : List ℕ) → length (vectorIn s) ≡ length s
 unfolding vectorIn

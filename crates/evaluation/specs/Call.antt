@@ -7,7 +7,7 @@ use lib.ListN.{length}
 use Rattle.table.specs.Area.{decode}
 use Rattle.formed.specs.Tests.{wellFormed}
 use Rattle.orders.specs.Order.{evalOrder}
-use Rattle.evaluation.specs.Step.{stepOf}
+use Rattle.step.specs.Step.{stepOf}
 use Rattle.evaluation.specs.Called.{goodValues, valueIn, vectorIn, firstFault}
 use Rattle.evaluation.specs.declared.Evaluated.{Evaluated}
 use Rattle.evaluation.specs.declared.Evaluated.the-variants.{Output, Refused}

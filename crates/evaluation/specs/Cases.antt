@@ -11,7 +11,7 @@ use Rattle.symbol.specs.declared.Output.{Output}
 use Rattle.symbol.specs.declared.Output.the-variants.{Out0, Out1, Old}
 use Rattle.table.specs.Table.{Row, Table}
 use Rattle.orders.specs.Order.{evalOrder}
-use Rattle.evaluation.specs.Step.{stepOf}
+use Rattle.step.specs.Step.{stepOf}
 
 -- a sequential table of two inputs; its rows have the state ?
 abbrev pub table : List ℕ → List Row → Table

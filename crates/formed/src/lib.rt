@@ -240,7 +240,7 @@ pub fn well_formed(a: &[u8]) -> bool
     if a.len() != table::AREA {
         return false;
     }
-    if !table::is_canonical(a) {
+    if !canonical::is_canonical(a) {
         return false;
     }
     is_valid(a)

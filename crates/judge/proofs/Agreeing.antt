@@ -15,8 +15,8 @@ use Rattle.orders.proofs.Digits.{digit-is, put-lt}
 use Rattle.memo.specs.Rows.{cells, allRows}
 use Rattle.memo.specs.Pair.{othersOf, firstThen, secondThen}
 use Rattle.memo.proofs.Others.{digit-same, digit-other, others-put}
-use Rattle.planes.specs.Planes as planes
-use Rattle.planes.specs.Pairs.{PairAgrees}
+use Rattle.exchange.specs.Lanes as exchange
+use Rattle.exchange.specs.Pairs.{PairAgrees}
 use Rattle.pair.specs.Search.{Given, weight, differsBy, differsIn, differsAt, firstAt}
 use Rattle.judge.specs.Search.{pairFirst}
 use Rattle.judge.proofs.Findings.{pair-first}
@@ -99,7 +99,7 @@ agrees-by t i j lt lj e = record {
 }
 
 -- what the search of a pair is given is what the lanes are given
-pub lanes-given : (t : Table) (s : List (List ℕ)) (all : ℕ) (outs : List ℕ) (n m i j : ℕ) → Given t s all outs n m → i < n → j < n → planes.Given t s outs n i j
+pub lanes-given : (t : Table) (s : List (List ℕ)) (all : ℕ) (outs : List ℕ) (n m i j : ℕ) → Given t s all outs n m → i < n → j < n → exchange.Given t s outs n i j
 lanes-given t s all outs n m i j G a b = record {
   small = G .known .small;
   cells-are = G .known .cells-are;

@@ -19,8 +19,8 @@ use Rattle.orders.proofs.Candidates.{value-rank, same-of, of-same, vector-numbe
 use Rattle.orders.proofs.Answers.{judged-iff}
 use Rattle.orders.proofs.Digits.{power-le}
 use Rattle.table.specs.Table.{Table}
-use Rattle.evaluation.specs.Step.{stepOf}
-use Rattle.evaluation.proofs.Laws.{laws}
+use Rattle.step.specs.Step.{stepOf}
+use Rattle.step.proofs.Laws.{laws}
 use Rattle.memo.specs.Rows.{Small}
 use Rattle.pair.specs.Search.{differsAt, firstAt}
 use Rattle.verdict.specs.declared.Witness.{Witness}

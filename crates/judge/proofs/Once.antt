@@ -19,8 +19,8 @@ use Rattle.orders.specs.Pairs.{PairAgrees}
 use Rattle.orders.specs.Verdict.{dependent, candidates, firstOutput, secondOutput, First}
 use Rattle.orders.proofs.Places.{every-family}
 use Rattle.orders.proofs.Answers.{same-first, first-dependent}
-use Rattle.evaluation.specs.Step.{stepOf}
-use Rattle.evaluation.proofs.Laws.{laws}
+use Rattle.step.specs.Step.{stepOf}
+use Rattle.step.proofs.Laws.{laws}
 use Rattle.verdict.specs.declared.Witness.{Witness}
 use Rattle.verdict.specs.declared.Finding.{Finding}
 use Rattle.verdict.specs.declared.Finding.the-variants.{Independent, Dependent}

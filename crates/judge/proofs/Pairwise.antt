@@ -18,13 +18,13 @@ use Rattle.base.proofs.Listed.{listed-is, listed-length, listed-at, Filled}
 use Rattle.orders.specs.Order.{Step}
 use Rattle.orders.specs.Verdict.{candidates}
 use Rattle.table.specs.Table.{Table}
-use Rattle.evaluation.specs.Step.{stepOf}
+use Rattle.step.specs.Step.{stepOf}
 use Rattle.memo.specs.Rows.{Small}
 use Rattle.pair.specs.Search.{differsAt, firstAt}
 use Rattle.judge.specs.Search.{pairFirst, pairDiffers, yesIn, squareIn}
 use Rattle.judge.specs.Judge.{disagree, pairYes, squareOf}
 use Rattle.judge.proofs.Ranks.{differs-is}
-use Rattle.planes.specs.Pairs.{Tells}
+use Rattle.exchange.specs.Pairs.{Tells}
 use Rattle.judge.proofs.Findings.{no-pair}
 use Rattle.judge.proofs.Agreeing.{agreed, agrees-by}
 

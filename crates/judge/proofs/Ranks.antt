@@ -7,7 +7,7 @@ use native.Mathlib.Omega.{arith}
 use Rattle.value.specs.Value.{rankOf, sameValue}
 use Rattle.table.specs.Table.{Table}
 use Rattle.orders.specs.Verdict.{firstOutput, secondOutput}
-use Rattle.evaluation.specs.Step.{stepOf}
+use Rattle.step.specs.Step.{stepOf}
 use Rattle.memo.specs.Rows.{cells, allRows, Small}
 use Rattle.memo.proofs.Others.{others-comm}
 use Rattle.memo.proofs.Outputs.{first-is, second-is}

@@ -16,7 +16,7 @@ use Rattle.base.proofs.Listed.{listed-at}
 use Rattle.base.proofs.Search.{some-at, some-none}
 use Rattle.table.specs.Area.{decode}
 use Rattle.formed.specs.Tests.{wellFormed}
-use Rattle.evaluation.specs.Step.{stepOf}
+use Rattle.step.specs.Step.{stepOf}
 use Rattle.orders.specs.Order.{Step, Every}
 use Rattle.orders.specs.Pairs.{PairAgrees, Yes}
 use Rattle.orders.specs.Verdict.{candidates, firstNow, secondNow, firstOutput, secondOutput, Disagrees}

@@ -12,7 +12,7 @@ use Rattle.table.specs.Area.{decode}
 use Rattle.formed.specs.Tests.{wellFormed}
 use Rattle.orders.specs.Order as order
 use Rattle.orders.specs.Verdict.{candidates, firstNow, secondNow, oldAt, firstOutput, secondOutput, First}
-use Rattle.evaluation.specs.Step.{stepOf}
+use Rattle.step.specs.Step.{stepOf}
 use Rattle.verdict.specs.declared.Witness.{Witness}
 use Rattle.verdict.specs.declared.Finding.{Finding}
 use Rattle.verdict.specs.declared.Finding.the-variants.{Independent, Dependent}

@@ -5,7 +5,7 @@ ghost use lib.ListN.{getD};
 ghost use Rattle.base.specs.Listed.{listed};
 ghost use Rattle.table.specs.Table.{Table};
 ghost use Rattle.planes.specs.Planes.{Low};
-ghost use Rattle.planes.specs.Pairs.{Tells};
+ghost use Rattle.exchange.specs.Pairs.{Tells};
 ghost use Rattle.pair.specs.Search.{Given};
 ghost use Rattle.judge.specs.Search.{pairFirst, witnessIn, findingIn, yesIn, squareIn};
 ghost use Rattle.judge.specs.Judge.{squareFor};

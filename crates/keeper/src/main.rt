@@ -5,7 +5,6 @@ use book::Opened;
 use disk::Loaded;
 use keeping::Counted;
 use run::Ran;
-use run::say;
 
 fn finish(file: i32, path: &[u8], length: usize, stated: usize, total: usize) {
     if length < stated {

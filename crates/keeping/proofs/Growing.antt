@@ -1,6 +1,6 @@
 -- How what a book holds grows with each turn of the keeper. Assumes nothing.
-use Prim.Native.Nat.{ℕ, suc, _+_, _-_, _≤_, _<_, max}
-use mathlib.Core.Path.{_≡_, refl, sym, ap, ap₂, subst, _∙_}
+use Prim.Native.Nat.{ℕ, _+_, _-_, _≤_, _<_}
+use mathlib.Core.Path.{_≡_, refl, sym, ap, subst, _∙_}
 use mathlib.Core.Bool.{Bool, true, false, cond}
 use mathlib.Core.List.{List, [], _∷_, _++_, append-assoc}
 use native.Mathlib.Omega.{arith}
@@ -9,7 +9,6 @@ use lib.Dec.{ltb}
 use lib.ListN.{length, take, drop, length-append, take-append-drop}
 use lib.Seq.{take-at, length-take-le}
 use Rattle.base.specs.Limits.{bookLimit}
-use Rattle.files.specs.Parts.{join}
 use Rattle.files.specs.Files.{LF}
 use Rattle.entry.specs.Entry.{entry}
 use Rattle.entry.specs.Handed.{Handed, verdictOf, fitsLayout}
@@ -17,10 +16,10 @@ use Rattle.book.specs.declared.Good.{Good}
 use Rattle.book.specs.declared.Opened.{Opened}
 use Rattle.book.specs.declared.Opened.the-variants as open-book
 use Rattle.book.specs.declared.Appended.the-variants.{Stated}
-use Rattle.book.specs.Book.{limitOf, opened, openedFile, onOpened, Outcome, outcome, lineOf, withBytes, refusal, appendedAt, appended}
-use Rattle.book.specs.Runs.{linesFrom, bookOf, AllFit, none-left, one-fits}
+use Rattle.book.specs.Book.{limitOf, opened, openedFile, onOpened, Outcome, outcome, lineOf, refusal, appendedAt, appended}
+use Rattle.book.specs.Runs.{bookOf, none-left}
 use Rattle.book.proofs.Appending.{limit-le}
-use Rattle.book.proofs.Kept.{Kept, kept-book, Accepted, accepted}
+use Rattle.book.proofs.Kept.{Kept, kept-book, Accepted, accepted, fit-snoc, book-snoc}
 use Rattle.grammar.proofs.Moves.{read-forward}
 use Rattle.keeping.specs.declared.Settled.the-variants as settle
 use Rattle.keeping.specs.Keeping.{VerdictAt, no-verdict, one-verdict, Holds, standing, Settles}
@@ -28,36 +27,18 @@ use Rattle.keeping.proofs.Standing.{stands-fit, stands-long, stands-ins
 
 -- ---- a verdict more
 
-book-snoc : (s : ℕ) (hs : List Handed) (h : Handed) →
-    join LF (linesFrom s (hs ++ (h ∷ []))) ≡ join LF (linesFrom s hs) ++ lineOf (s + length (join LF (linesFrom s hs))) h
-book-snoc s [] h =
-    let z : s + 0 ≡ s = omega arith in
-    rw z
-book-snoc s (a ∷ hs) h =
-    let b : List ℕ = entry s (verdictOf a) in
-    let m : ℕ = s + suc (length b) in
-    let l : List ℕ = join LF (linesFrom m hs) in
-    let z : m + length l ≡ s + length (b ++ (LF ∷ l)) = omega (arith, length-append b (LF ∷ l)) in
-    ap (λ (r : List ℕ). b ++ (LF ∷ r)) (book-snoc m hs h ∙ ap (λ (n : ℕ). l ++ lineOf n h) z)
-    ∙ sym (append-assoc b (LF ∷ l) (lineOf (s + length (b ++ (LF ∷ l))) h))
-
-fits-too : {hs : List Handed} (h : Handed) → AllFit hs → fitsLayout h ≡ true → AllFit (hs ++ (h ∷ []))
-fits-too h none-left g = one-fits g none-left
-fits-too h (one-fits f fs) g = one-fits f (fits-too h fs g)
-
 module _ (text : List ℕ) (start next : ℕ) (book : List ℕ) (at : ℕ) (k : Holds text start book at) (h : Handed) (v : VerdictAt text start next h) where
   place-is : length (bookOf (k .verdicts)) ≡ at
   place-is = sym (ap length (k .bytes)) ∙ length-take-le at book (k .inside)
 
   grown : (left : List ℕ) (m : ℕ) → fitsLayout h ≡ true → m ≤ length left → take m left ≡ take at book ++ lineOf at h → Holds text next left m
   grown left m f i e =
-      let z : 0 + length (bookOf (k .verdicts)) ≡ at = omega (arith, place-is) in
       record {
         verdicts = k .verdicts ++ (h ∷ []);
         theirs = one-verdict h (k .theirs) v;
-        fit = fits-too h (k .fit) f;
+        fit = fit-snoc h (k .fit) f;
         inside = i;
-        bytes = e ∙ ap₂ (λ (l : List ℕ) (n : ℕ). l ++ lineOf n h) (k .bytes) (sym z) ∙ sym (book-snoc 0 (k .verdicts) h);
+        bytes = e ∙ ap (λ (l : List ℕ). l ++ lineOf at h) (k .bytes) ∙ sym (book-snoc 0 (k .verdicts) h at (omega (arith, place-is)));
       }
 
   -- ---- its line stands there

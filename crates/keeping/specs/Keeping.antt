@@ -6,7 +6,7 @@ use mathlib.Core.Bool.{cond, _&&_}
 use mathlib.Core.List.{List, [], _∷_, _++_}
 use lib.ListN.{length, take}
 use Rattle.table.specs.Table.{Table}
-use Rattle.evaluation.specs.Step.{stepOf}
+use Rattle.step.specs.Step.{stepOf}
 use Rattle.grammar.specs.Reading.{table, end, read}
 use Rattle.reading.specs.declared.Reading.the-variants as reads
 use Rattle.reading.specs.Told.{out, readInto}

@@ -15,8 +15,9 @@ use Rattle.memo.specs.Rows.{allRows, cells, cellAt}
 use Rattle.memo.specs.Pair.{othersOf}
 use Rattle.planes.specs.Words.{bit}
 use Rattle.lanes.specs.Columns.{topOf, matching, laneAt, Lanes}
-use Rattle.planes.specs.Planes.{laneRows, Agree, Given}
-use Rattle.planes.specs.Pairs.{PairAgrees, Tells}
+use Rattle.planes.specs.Planes.{laneRows}
+use Rattle.exchange.specs.Lanes.{Agree, Given}
+use Rattle.exchange.specs.Pairs.{PairAgrees, Tells}
 use Rattle.lanes.specs.Pairs.{OuterTell}
 use Rattle.planes.proofs.Bits.{bit-and, bit-ext, bit-past}
 use Rattle.planes.proofs.Answers.{row-in}

@@ -11,7 +11,8 @@ use Rattle.base.proofs.Bools.{clash}
 use Rattle.table.specs.Table.{Table}
 use Rattle.memo.specs.Rows.{cellAt}
 use Rattle.lanes.specs.Columns.{topOf, matching}
-use Rattle.planes.specs.Planes.{laneRows, Agree, Given, LanesAgree, LanesTell}
+use Rattle.planes.specs.Planes.{laneRows}
+use Rattle.exchange.specs.Lanes.{Agree, Given, LanesAgree, LanesTell}
 use Rattle.lanes.specs.Pairs.{OuterAgree, OuterTell}
 use Rattle.plain.specs.Plain.{Only, Plain}
 use Rattle.plain.proofs.Alike.{plain-lanes}

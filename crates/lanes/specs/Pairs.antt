@@ -5,7 +5,8 @@ use mathlib.Core.Bool.{Bool, true}
 use mathlib.Core.List.{List}
 use lib.Bits.{bitAnd}
 use Rattle.table.specs.Table.{Table}
-use Rattle.planes.specs.Planes.{laneRows, Agree, Given, LanesAgree}
+use Rattle.planes.specs.Planes.{laneRows}
+use Rattle.exchange.specs.Lanes.{Agree, Given, LanesAgree}
 use Rattle.lanes.specs.Columns.{matching}
 
 -- the two orders agree in every lane, whatever values the first k columns but i and j have; the rows r match in those behind

@@ -6,10 +6,11 @@ ghost use lib.ListN.{length};
 ghost use Rattle.table.specs.Table.{Table, rowAt};
 ghost use Rattle.table.specs.Area.{decode};
 ghost use Rattle.memo.specs.Rows.{Small, allRows};
-ghost use Rattle.planes.specs.Planes.{Low, Outputs, Given};
+ghost use Rattle.planes.specs.Planes.{Low, Outputs};
+ghost use Rattle.exchange.specs.Lanes.{Given};
 ghost use Rattle.plain.specs.Plain.{Plain};
 ghost use Rattle.lanes.specs.Columns.{topOf, lanesIn, LaneRow, Lanes};
-ghost use Rattle.planes.specs.Pairs.{Tells};
+ghost use Rattle.exchange.specs.Pairs.{Tells};
 ghost use Rattle.lanes.specs.Pairs.{OuterTell};
 use value::Ternary;
 
@@ -98,7 +99,7 @@ fn outer_agree(
     }
     let t = top_of(i, j, k);
     if t == 0 {
-        return planes::lanes_agree(g, outs, s, n, i, j, r);
+        return exchange::lanes_agree(g, outs, s, n, i, j, r);
     }
     let q = t - 1;
     let a = r & s[q][0];

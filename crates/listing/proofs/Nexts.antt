@@ -13,7 +13,7 @@ use Rattle.table.specs.Area.{encode, decode}
 use Rattle.formed.specs.Tests.{wellFormed}
 use Rattle.formed.specs.Valid.{Valid}
 use Rattle.formed.proofs.Exact.{of-formed, formed-table}
-use Rattle.evaluation.specs.Step.{stepOf}
+use Rattle.step.specs.Step.{stepOf}
 use Rattle.grammar.specs.Reading.{table, end, refusal, read}
 use Rattle.grammar.specs.Reading as grammar
 use Rattle.grammar.proofs.Gives.{read-valid}

@@ -8,7 +8,7 @@ use lib.ListN.{length, getD}
 use Rattle.base.specs.Search.{every}
 use Rattle.table.specs.Table.{Table}
 use Rattle.table.specs.Area.{encode}
-use Rattle.evaluation.specs.Step.{stepOf}
+use Rattle.step.specs.Step.{stepOf}
 use Rattle.grammar.specs.Reading.{table, end, read}
 use Rattle.reading.specs.declared.Reading.the-variants as reads
 use Rattle.reading.specs.Told.{out, readInto}

@@ -25,8 +25,8 @@ use Rattle.orders.specs.Order.{Step}
 use Rattle.orders.proofs.Candidates.{rank-value, length-vectorOf}
 use Rattle.orders.specs.Digits.{digitOf}
 use Rattle.orders.proofs.Digits.{digit-low, value-digit, last-value, earlier-value}
-use Rattle.evaluation.specs.Step.{rowFor, answerOf, stepOf}
-use Rattle.evaluation.proofs.Laws.{step-arrives}
+use Rattle.step.specs.Step.{rowFor, answerOf, stepOf}
+use Rattle.step.proofs.Laws.{step-arrives}
 use Rattle.symbol.specs.Masks.{maskOf}
 use Rattle.memo.specs.Rows.{lowest, columnOf, offeredRows, allRows, cellRow, cells, cellAt, restOf, outBy, entryOf, Small}
 use Rattle.memo.proofs.Masks.{mask-ext, lowest-first}

@@ -18,8 +18,8 @@ use Rattle.orders.proofs.Pairs.{tail-idle}
 use Rattle.orders.proofs.Candidates.{value-rank, rank-value, rank-low, vector-number}
 use Rattle.orders.specs.Digits.{digitOf, putDigit}
 use Rattle.orders.proofs.Digits as digits
-use Rattle.evaluation.specs.Step.{stepOf}
-use Rattle.evaluation.proofs.Laws.{laws}
+use Rattle.step.specs.Step.{stepOf}
+use Rattle.step.proofs.Laws.{laws}
 use Rattle.memo.specs.Rows.{cells, allRows, cellAt, restOf, entryOf, Small}
 use Rattle.memo.specs.Pair.{othersOf, firstThen, secondThen}
 use Rattle.memo.proofs.Entries.{kept, entry-right}

@@ -16,7 +16,7 @@ use Rattle.symbol.specs.declared.Symbol.the-variants.{Held}
 use Rattle.symbol.specs.Masks.{maskOf}
 use Rattle.symbol.specs.Match.{offered}
 use Rattle.table.specs.Table.{Table, rowAt, symbolAt}
-use Rattle.evaluation.specs.Step.{answerOr}
+use Rattle.step.specs.Step.{answerOr}
 
 -- the place of the lowest bit, or n
 unfoldable pub lowest : ℕ → ℕ → ℕ

@@ -14,16 +14,17 @@ use borrow.Author.Tests.{eqb-true, eq-eqb, ne-eqb}
 use Rattle.base.proofs.Bools.{clash}
 use Rattle.value.specs.Value.{rankOf, valueOf}
 use Rattle.table.specs.Table.{Table}
-use Rattle.evaluation.specs.Step.{answerOr}
+use Rattle.step.specs.Step.{answerOr}
 use Rattle.memo.specs.Rows.{cellAt, outBy, entryOf}
 use Rattle.memo.specs.Pair.{firstThen, secondThen}
 use Rattle.planes.specs.Words.{bit}
-use Rattle.planes.specs.Planes.{laneRows, answerIn, orX, Agree, Given, LanesAgree}
+use Rattle.planes.specs.Planes.{laneRows, answerIn, orX}
+use Rattle.exchange.specs.Lanes.{Agree, Given, LanesAgree}
 use Rattle.plain.specs.Plain.{Steady, Edges, Only, Plain}
 use Rattle.planes.proofs.Bits.{bit-and, bit-zero, bit-ext, lowest-in}
 use Rattle.planes.proofs.Planes.{swap}
-use Rattle.planes.proofs.Entered.{state-lt, out-rank, entry-low}
-use Rattle.planes.proofs.Orders.{by-change}
+use Rattle.exchange.proofs.Entered.{state-lt, out-rank, entry-low}
+use Rattle.exchange.proofs.Orders.{by-change}
 use Rattle.plain.proofs.Sets.{both-in}
 
 -- a test that each member passes, and one that none does

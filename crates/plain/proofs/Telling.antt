@@ -9,8 +9,8 @@ use Rattle.table.specs.Table.{Table}
 use Rattle.memo.specs.Rows.{allRows, cellAt}
 use Rattle.memo.specs.Pair.{othersOf}
 use Rattle.planes.specs.Words.{bit}
-use Rattle.planes.specs.Planes.{Given}
-use Rattle.planes.specs.Pairs.{Tells}
+use Rattle.exchange.specs.Lanes.{Given}
+use Rattle.exchange.specs.Pairs.{Tells}
 use Rattle.plain.specs.Plain.{Only, Plain}
 use Rattle.plain.proofs.Sets.{both-in}
 use Rattle.plain.proofs.Alike.{plain-agree}

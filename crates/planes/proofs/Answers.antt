@@ -1,19 +1,18 @@
 -- The answers spread over the lanes, row by row. Assumes nothing.
-use Prim.Native.Nat.{ℕ, zero, suc, _+_, _-_, _*_, _/_, _%_, _^_, _<_, _≤_}
+use Prim.Native.Nat.{ℕ, _+_, _-_, _*_, _^_, _<_}
 use mathlib.Core.Path.{_≡_, refl, sym, ap, _∙_}
-use mathlib.Core.Bool.{Bool, true, false, cond, _&&_, _||_, not, xor, and-false, or-false}
-use mathlib.Core.Logic.{⊎-elim, _≢_}
-use mathlib.Core.List.{List, [], _∷_}
+use mathlib.Core.Bool.{Bool, true, false, cond, _&&_, _||_, xor, and-false, or-false}
+use mathlib.Core.Logic.{⊎-elim}
+use mathlib.Core.List.{List}
 use native.Mathlib.Nat.{eq-or-lt-of-le}
 use native.Mathlib.Omega.{arith}
-use lib.Bits.{bitAnd, bitOr, bitXor, and-zero-r}
+use lib.Bits.{bitAnd, bitOr, bitXor}
 use lib.Count.{trailingZeros}
 use lib.Dec.{eqb}
 use lib.ListN.{length, getD, length-set, set as set'}
 use lib.Seq.{getD-set-same, getD-set-other}
 use borrow.Author.Tests.{eqb-true, eqb-false, eq-eqb, ne-eqb}
 use Rattle.base.proofs.Bools.{clash}
-use Rattle.symbol.specs.Masks.{maskOf}
 use Rattle.planes.specs.Words.{bit, Told}
 use Rattle.planes.specs.Planes.{Low, laneRows, answerIn, answered}
 use Rattle.planes.proofs.Bits.{bit-and, bit-or, bit-xor, bit-zero, bit-ext, bit-mask, lowest-in, lowest-lt, below-lowest, lowest-is, clear-lowest}

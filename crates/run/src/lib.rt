@@ -1,5 +1,4 @@
 // The run over a library: each primitive's entry is kept or stored, and what was done is said.
-pub mod say;
 
 ghost use Prim.Native.Nat.{_<_, _≤_};
 ghost use lib.ListN.{length};

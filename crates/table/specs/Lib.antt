@@ -2,4 +2,3 @@ pub mod Table
 pub mod Match
 pub mod Places
 pub mod Area
-pub mod Parts

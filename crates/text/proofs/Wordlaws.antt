@@ -1,6 +1,6 @@
 -- Words and names at a place of a text. Assumes nothing.
 use mathlib.Core.Path.{_≡_, refl, sym, ap, _∙_}
-use mathlib.Core.Bool.{Bool, true, false, not, cond, _&&_}
+use mathlib.Core.Bool.{Bool, true, false, not, cond, _&&_, _||_}
 use mathlib.Core.List.{List, [], _∷_}
 use Prim.Native.Nat.{ℕ, suc, _+_, _-_, _≤_, _<_}
 use native.Mathlib.Numerals.{add-one}
@@ -35,12 +35,12 @@ module _ (a b : List ℕ) (i : ℕ) where
       (λ (k : length b ≤ i). rw (drop-of-length-le a h, drop-of-length-le b k, le-leb _ _ k))
       (lt-or-ge i (length b))
 
-module _ (t : List ℕ) where
-  pub all-cons : (i : ℕ) → i < length t → allInName (drop i t) ≡ (inName (getD t i 0) && allInName (drop (i + 1) t))
-  all-cons i h = rw (add-one, drop-cons t i 0)
-
-  pub all-nil : (i : ℕ) → length t ≤ i → allInName (drop i t) ≡ true
-  all-nil i h = rw (drop-of-length-le t h)
+-- four words, and then others
+pub four-first : (a b c d r : Bool) → ((a || (b || (c || d))) || r) ≡ (a || (b || (c || (d || r))))
+four-first true b c d r = refl
+four-first false true c d r = refl
+four-first false false true d r = refl
+four-first false false false d r = refl
 
 pub name-cons : (t : List ℕ) → (length t ≡ 0 → ⊥) → isName t ≡ (starts (getD t 0 0) && allInName (drop 1 t) && not (member t keywords))
 unfolding isName

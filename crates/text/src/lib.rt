@@ -348,28 +348,10 @@ pub fn same(a: &[u8], b: &[u8]) -> bool
 pub fn is_keyword(w: &[u8]) -> bool
     ensures { λ r. ⌜ r ≡ member (now (w .entry)) keywords ⌝ }
 {
-    if same(w, b"primitive") {
-        return true;
-    }
-    if same(w, b"output") {
-        return true;
-    }
-    if same(w, b"input") {
-        return true;
-    }
-    if same(w, b"reg") {
-        return true;
-    }
-    if same(w, b"initial") {
-        return true;
-    }
-    if same(w, b"table") {
-        return true;
-    }
-    if same(w, b"endtable") {
-        return true;
-    }
-    same(w, b"endprimitive")
+    let head = same(w, b"primitive") | (same(w, b"output") | (same(w, b"input") | same(w, b"reg")));
+    let body = same(w, b"initial")
+        | (same(w, b"table") | (same(w, b"endtable") | same(w, b"endprimitive")));
+    head | body
 }
 
 pub fn is_name(s: &[u8]) -> bool

@@ -1,7 +1,7 @@
 use Prim.Native.Nat.{_-_, _≤_}
 use native.Mathlib.Omega.{arith}
 use borrow.Author.Needs.{needs}
-use Rattle.planes.proofs.Each.{Each, each-none, each-more, each-all}
+use Rattle.exchange.proofs.Each.{Each, each-none, each-more, each-all}
 use Rattle.cube.specs.Lanes.{RowLanes}
 use Rattle.cube.proofs.lanes.Statement.{statement}
 use Rattle.cube.proofs.lanes.Tie as tie

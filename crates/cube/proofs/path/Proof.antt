@@ -1,6 +1,6 @@
 use mathlib.Core.Path.{refl}
 use borrow.Author.Needs.{needs}
-use Rattle.planes.specs.Paths.{pathOf}
+use Rattle.exchange.specs.Paths.{pathOf}
 use Rattle.cube.proofs.path.Statement.{statement}
 use Rattle.cube.proofs.path.Tie as tie
 

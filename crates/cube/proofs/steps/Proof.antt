@@ -4,7 +4,7 @@ use mathlib.Core.Path.{refl, sym}
 use native.Mathlib.Nat.{add-zero}
 use native.Mathlib.Omega.{arith}
 use borrow.Author.Needs.{needs}
-use Rattle.planes.proofs.Each.{Each, each-none, each-three, each-all}
+use Rattle.exchange.proofs.Each.{Each, each-none, each-three, each-all}
 use Rattle.cube.proofs.Weights.{times-low}
 use Rattle.cube.proofs.Stepping.{Stepped, stepped-by, steps-by}
 use Rattle.cube.proofs.steps.Statement.{statement}

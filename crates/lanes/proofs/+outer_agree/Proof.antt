@@ -9,7 +9,7 @@ use Rattle.lanes.proofs.Outer.{outer-plain, outer-none, outer-no, outer
 use Rattle.lanes.proofs.outer_agree.Reads as outer-agree
 use Rattle.lanes.proofs.outer_agree.Kinds as outer-agree-kinds
 use Rattle.lanes.proofs.+outer_agree.Lts-outer_agree as outer-agree-lts
-use Rattle.planes.proofs.lanes_agree.Reads as lanes-agree-reads
+use Rattle.exchange.proofs.lanes_agree.Reads as lanes-agree-reads
 use Rattle.plain.proofs.only_plain.Reads as only-plain-reads
 use Rattle.lanes.proofs.top_of.Reads as top-of-reads
 use Rattle.lanes.proofs.+outer_agree.{statement}

@@ -1,6 +1,6 @@
-use mathlib.Core.Path.{sym}
-use mathlib.Core.Bool.{or-false}
+use mathlib.Core.Bool.{_||_, or-false}
 use borrow.Author.Needs.{needs}
+use Rattle.text.proofs.Wordlaws.{four-first}
 use Rattle.text.proofs.is_keyword.Statement.{statement}
 use Rattle.text.proofs.is_keyword.Tie as tie
 
@@ -10,25 +10,18 @@ is-keyword-spec =
     (tie.spec
     (λ c. search needs)
     (λ c κs. search needs)
-    (λ c. rw (← c .before .same .ensures, c .if1 .taken))
     (λ c. search needs)
     (λ c κs. search needs)
-    (λ c. rw (← c .before .before .before .before .same .ensures, c .before .before .before .if1 .left, ← c .before .same2 .ensures, c .if2 .taken))
     (λ c. search needs)
     (λ c κs. search needs)
-    (λ c. rw (← c .before .before .before .before .before .before .before .same .ensures, c .before .before .before .before .before .before .if1 .left, ← c .before .before .before .before .same2 .ensures, c .before .before .before .if2 .left, ← c .before .same3 .ensures, c .if3 .taken))
     (λ c. search needs)
     (λ c κs. search needs)
-    (λ c. rw (← c .before .before .before .before .before .before .before .before .before .before .same .ensures, c .before .before .before .before .before .before .before .before .before .if1 .left, ← c .before .before .before .before .before .before .before .same2 .ensures, c .before .before .before .before .before .before .if2 .left, ← c .before .before .before .before .same3 .ensures, c .before .before .before .if3 .left, ← c .before .same4 .ensures, c .if4 .taken))
     (λ c. search needs)
     (λ c κs. search needs)
-    (λ c. rw (← c .before .before .before .before .before .before .before .before .before .before .before .before .before .same .ensures, c .before .before .before .before .before .before .before .before .before .before .before .before .if1 .left, ← c .before .before .before .before .before .before .before .before .before .before .same2 .ensures, c .before .before .before .before .before .before .before .before .before .if2 .left, ← c .before .before .before .before .before .before .before .same3 .ensures, c .before .before .before .before .before .before .if3 .left, ← c .before .before .before .before .same4 .ensures, c .before .before .before .if4 .left, ← c .before .same5 .ensures, c .if5 .taken))
     (λ c. search needs)
     (λ c κs. search needs)
-    (λ c. rw (← c .before .before .before .before .before .before .before .before .before .before .before .before .before .before .before .before .same .ensures, c .before .before .before .before .before .before .before .before .before .before .before .before .before .before .before .if1 .left, ← c .before .before .before .before .before .before .before .before .before .before .before .before .before .same2 .ensures, c .before .before .before .before .before .before .before .before .before .before .before .before .if2 .left, ← c .before .before .before .before .before .before .before .before .before .before .same3 .ensures, c .before .before .before .before .before .before .before .before .before .if3 .left, ← c .before .before .before .before .before .before .before .same4 .ensures, c .before .before .before .before .before .before .if4 .left, ← c .before .before .before .before .same5 .ensures, c .before .before .before .if5 .left, ← c .before .same6 .ensures, c .if6 .taken))
     (λ c. search needs)
     (λ c κs. search needs)
-    (λ c. rw (← c .before .before .before .before .before .before .before .before .before .before .before .before .before .before .before .before .before .before .before .same .ensures, c .before .before .before .before .before .before .before .before .before .before .before .before .before .before .before .before .before .before .if1 .left, ← c .before .before .before .before .before .before .before .before .before .before .before .before .before .before .before .before .same2 .ensures, c .before .before .before .before .before .before .before .before .before .before .before .before .before .before .before .if2 .left, ← c .before .before .before .before .before .before .before .before .before .before .before .before .before .same3 .ensures, c .before .before .before .before .before .before .before .before .before .before .before .before .if3 .left, ← c .before .before .before .before .before .before .before .before .before .before .same4 .ensures, c .before .before .before .before .before .before .before .before .before .if4 .left, ← c .before .before .before .before .before .before .before .same5 .ensures, c .before .before .before .before .before .before .if5 .left, ← c .before .before .before .before .same6 .ensures, c .before .before .before .if6 .left, ← c .before .same7 .ensures, c .if7 .taken))
     (λ c. search needs)
     (λ c κs. search needs)
-    (λ c. rw (← c .before .before .before .before .before .before .before .before .before .before .before .before .before .before .before .before .before .before .before .before .before .same .ensures, c .before .before .before .before .before .before .before .before .before .before .before .before .before .before .before .before .before .before .before .before .if1 .left, ← c .before .before .before .before .before .before .before .before .before .before .before .before .before .before .before .before .before .before .same2 .ensures, c .before .before .before .before .before .before .before .before .before .before .before .before .before .before .before .before .before .if2 .left, ← c .before .before .before .before .before .before .before .before .before .before .before .before .before .before .before .same3 .ensures, c .before .before .before .before .before .before .before .before .before .before .before .before .before .before .if3 .left, ← c .before .before .before .before .before .before .before .before .before .before .before .before .same4 .ensures, c .before .before .before .before .before .before .before .before .before .before .before .if4 .left, ← c .before .before .before .before .before .before .before .before .before .same5 .ensures, c .before .before .before .before .before .before .before .before .if5 .left, ← c .before .before .before .before .before .before .same6 .ensures, c .before .before .before .before .before .if6 .left, ← c .before .before .before .same7 .ensures, c .before .before .if7 .left, ← c .same8 .ensures) (sym (or-false (c .same8 .result)))))
+    (λ c. rw (← c .before .before .before .before .before .before .before .before .before .before .before .before .before .before .same .ensures, ← c .before .before .before .before .before .before .before .before .before .before .before .before .same2 .ensures, ← c .before .before .before .before .before .before .before .before .before .before .same3 .ensures, ← c .before .before .before .before .before .before .before .before .same4 .ensures, ← c .before .before .before .before .before .before .same5 .ensures, ← c .before .before .before .before .same6 .ensures, ← c .before .before .same7 .ensures, ← c .same8 .ensures, or-false (c .same8 .result)) (four-first (c .before .before .before .before .before .before .before .before .before .before .before .before .before .before .same .result) (c .before .before .before .before .before .before .before .before .before .before .before .before .same2 .result) (c .before .before .before .before .before .before .before .before .before .before .same3 .result) (c .before .before .before .before .before .before .before .before .same4 .result) (c .before .before .before .before .before .before .same5 .result || (c .before .before .before .before .same6 .result || (c .before .before .same7 .result || c .same8 .result))))))
