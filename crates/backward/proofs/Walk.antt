@@ -7,7 +7,7 @@ use native.Mathlib.Omega.{arith}
 use lib.ListN.{length, getD, take}
 use lib.Seq.{take-length}
 use Rattle.base.specs.Limits.{bookLimit}
-use Rattle.entry.specs.Handed.{Handed, fitsLayout}
+use Rattle.handed.specs.Handed.{Handed, fitsLayout}
 use Rattle.book.specs.Book.{fetched}
 use Rattle.book.specs.Runs.{bookOf, AllFit, Event, Run, stored}
 use Rattle.book.proofs.Kept.{Kept, standing, fetched-is, ahead, behind, fit-at, starts-at, ends-at, ahead-short}

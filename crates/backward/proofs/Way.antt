@@ -14,7 +14,7 @@ use Rattle.files.specs.Files.{LF}
 use Rattle.files.proofs.Parts.{between-mid}
 use Rattle.verdict.specs.Verdict as words
 use Rattle.entry.specs.Entry.{space, digitOf, fields, trailer, entry}
-use Rattle.entry.specs.Handed.{Handed, verdictOf, fitsLayout}
+use Rattle.handed.specs.Handed.{Handed, verdictOf, fitsLayout}
 use Rattle.line.specs.declared.Told.{Told}
 use Rattle.line.specs.Told.{toldBy, isEntry}
 use Rattle.line.proofs.Round.{entry-is, told-entry}

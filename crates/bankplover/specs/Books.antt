@@ -14,7 +14,7 @@ use Rattle.table.specs.Area.{orX}
 use Rattle.verdict.specs.declared.Witness.{Witness}
 use Rattle.verdict.specs.declared.Finding.{Finding}
 use Rattle.verdict.specs.declared.Finding.the-variants.{Independent, Dependent}
-use Rattle.entry.specs.Handed.{Handed}
+use Rattle.handed.specs.Handed.{Handed}
 use Rattle.book.specs.declared.Opened.{Opened}
 use Rattle.book.specs.declared.Opened.the-variants as opening
 use Rattle.book.specs.declared.Appended.{Appended}

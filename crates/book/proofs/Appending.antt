@@ -14,7 +14,7 @@ use Rattle.base.proofs.Listed.{listed-is}
 use Rattle.verdict.specs.Verdict as words
 use Rattle.files.specs.Files.{LF}
 use Rattle.entry.specs.Entry.{entry}
-use Rattle.entry.specs.Handed.{Handed, verdictOf, fitsLayout}
+use Rattle.handed.specs.Handed.{Handed, verdictOf, fitsLayout}
 use Rattle.entry.specs.Draft.{draft}
 use Rattle.entry.proofs.Sizes.{unfit-of, fit-of, drafted-of, size-of}
 use Rattle.book.specs.declared.Appended.{Appended}

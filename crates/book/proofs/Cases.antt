@@ -20,7 +20,7 @@ use Rattle.verdict.specs.declared.Finding.the-variants.{Independent, Dependent}
 use Rattle.files.specs.Parts.{afterMark, nextMark, partAt}
 use Rattle.files.specs.Files.{LF}
 use Rattle.entry.specs.Entry.{entry}
-use Rattle.entry.specs.Handed.{Handed, thirds, witnessFits, findingFits, fitsLayout}
+use Rattle.handed.specs.Handed.{Handed, thirds, witnessFits, findingFits, fitsLayout}
 use Rattle.line.specs.Told.{valueIn, numberIn, witnessIn, toldBy, handedBy, isEntry}
 use Rattle.book.specs.declared.Opened.the-variants as open-book
 use Rattle.book.specs.declared.Appended.the-variants as append

@@ -15,8 +15,8 @@ use Rattle.files.specs.Files.{LF, good, whole, Cut}
 use Rattle.files.proofs.Parts.{Clean, none, more, split-join, part-in, after-join, part-join, join-snoc}
 use Rattle.files.proofs.Files.{Held, held-good, held-whole, held-cut, held-lines, after-append, length-whole}
 use Rattle.entry.specs.Entry.{entry}
-use Rattle.entry.specs.Handed.{Handed, verdictOf, fitsLayout}
-use Rattle.entry.proofs.Fit.{parts-of}
+use Rattle.handed.specs.Handed.{Handed, verdictOf, fitsLayout}
+use Rattle.handed.proofs.Fit.{parts-of}
 use Rattle.entry.proofs.Clean.{entry-line}
 use Rattle.line.specs.Told.{toldBy, isEntry}
 use Rattle.line.specs.declared.Told.{Told}

@@ -8,7 +8,7 @@ use borrow.Author.Tests.{leb-true}
 use lib.Dec.{leb}
 use lib.ListN.{length, getD, take, drop, length-append, length-drop, List·getD-append}
 use lib.Seq.{length-take-le, getD-take, getD-drop, getD-append-add}
-use Rattle.entry.specs.Handed.{Handed, fitsLayout}
+use Rattle.handed.specs.Handed.{Handed, fitsLayout}
 use Rattle.book.specs.declared.Opened.{Opened}
 use Rattle.book.specs.declared.Opened.the-variants as open-book
 use Rattle.book.specs.declared.Appended.{Appended}

@@ -9,7 +9,7 @@ use lib.Seq.{take-append-seam}
 use Rattle.base.specs.Limits.{bookLimit}
 use Rattle.files.specs.Files.{good, Cut}
 use Rattle.entry.specs.Entry.{entry}
-use Rattle.entry.specs.Handed.{Handed, verdictOf}
+use Rattle.handed.specs.Handed.{Handed, verdictOf}
 use Rattle.book.specs.declared.Opened.the-variants as open-book
 use Rattle.book.specs.declared.Appended.the-variants.{Stated, Refused}
 use Rattle.book.specs.declared.Entry.{Entry}

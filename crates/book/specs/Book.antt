@@ -9,7 +9,7 @@ use Rattle.base.specs.Limits.{bookLimit}
 use Rattle.files.specs.Parts.{split, afterMark, partAt}
 use Rattle.files.specs.Files.{LF}
 use Rattle.entry.specs.Entry.{entry}
-use Rattle.entry.specs.Handed.{Handed, verdictOf, fitsLayout}
+use Rattle.handed.specs.Handed.{Handed, verdictOf, fitsLayout}
 use Rattle.line.specs.Told.{toldBy, isEntry}
 use Rattle.line.specs.declared.Told.{Told}
 use Rattle.book.specs.declared.Good.{Good}

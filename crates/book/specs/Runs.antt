@@ -7,7 +7,7 @@ use lib.ListN.{length, take, drop}
 use Rattle.files.specs.Parts.{join}
 use Rattle.files.specs.Files.{LF, good, Cut}
 use Rattle.entry.specs.Entry.{entry}
-use Rattle.entry.specs.Handed.{Handed, verdictOf, fitsLayout}
+use Rattle.handed.specs.Handed.{Handed, verdictOf, fitsLayout}
 use Rattle.book.specs.declared.Appended.the-variants.{Stated, Refused}
 use Rattle.book.specs.declared.Entry.{Entry}
 use Rattle.book.specs.Book.{appended}

@@ -11,7 +11,7 @@ ghost use Rattle.base.specs.Listed.{listed};
 ghost use Rattle.files.specs.Parts.{between};
 ghost use Rattle.files.specs.Files.{LF};
 ghost use Rattle.entry.specs.Entry.{entry};
-ghost use Rattle.entry.specs.Handed.{Handed};
+ghost use Rattle.handed.specs.Handed.{Handed};
 ghost use Rattle.entry.specs.Draft.{draft};
 ghost use Rattle.line.specs.Told.{toldBy};
 ghost use Rattle.book.specs.Book.{openedFile, opened, outcome, withBytes, appendedAt, appended, entryAt, entryOf, fetched};

@@ -1,16 +1,12 @@
 -- Each byte of a field by its place. Assumes nothing.
 use mathlib.Core.Path.{_≡_, refl, sym, ap, _∙_}
-use mathlib.Core.Logic.{_≢_, ⊎-elim}
-use mathlib.Core.List.{List, [], _∷_, _++_, map}
-use Prim.Native.Nat.{ℕ, zero, suc, _+_, _-_, _/_, _%_, _≤_, _<_}
-use native.Mathlib.Nat.{eq-or-lt-of-le, le-of-suc-le-suc}
-use native.Mathlib.Decide.{ℕ-discrete}
+use mathlib.Core.List.{List, [], _∷_, map}
+use Prim.Native.Nat.{ℕ, zero, suc, _+_, _-_, _≤_, _<_}
 use native.Mathlib.Omega.{arith}
-use lib.ListN.{length, getD, length-append, length-map, List·getD-append, List·getD-eq-default}
-use lib.Seq.{getD-at, getD-set-same, getD-set-other}
+use lib.ListN.{length, getD, length-map, List·getD-eq-default}
 use Rattle.base.specs.Listed.{listed}
 use Rattle.base.proofs.Listed.{listed-length, listed-at}
-use Rattle.value.specs.Value.{valueOf, byteOf}
+use Rattle.value.specs.Value.{byteOf}
 use Rattle.value.specs.declared.Ternary.{Ternary}
 use Rattle.value.specs.declared.Ternary.the-variants.{V0}
 use Rattle.orders.specs.Vectors.{at, put, vectorOf}
@@ -20,7 +16,6 @@ use Rattle.orders.proofs.Places.{length-put, at-same, at-other}
 use Rattle.orders.proofs.Candidates.{length-vectorOf}
 use Rattle.verdict.proofs.Meaning.{now-length}
 use Rattle.entry.specs.Entry.{digitOf}
-use Rattle.entry.specs.Handed.{thirds}
 
 -- ---- mapped lists
 
@@ -42,38 +37,6 @@ pub order-past : (f : ℕ → ℕ) (n k : ℕ) → n ≤ k → 0 ≡ getD (map d
 order-past f n k h = sym (map-past digitOf (listed f n) k (omega (arith, listed-length f n)))
 
 -- ---- values of a vector
-
-pub thirds-step : (c m : ℕ) → 0 < m → thirds c m ≡ thirds (c / 3) (m - 1)
-unfolding thirds
-thirds-step c zero h = absurd (omega arith)
-thirds-step c (suc m) h =
-    let e : suc m - 1 ≡ m = omega arith in
-    rw e
-
-pub thirds-end : (c m : ℕ) → m ≤ 0 → thirds c m ≡ c
-unfolding thirds
-thirds-end c zero h = refl
-thirds-end c (suc m) h = absurd (omega arith)
-
-pub vector-at : (n c k : ℕ) → k < n → getD (vectorOf n c) k V0 ≡ valueOf (thirds c (n - 1 - k) % 3)
-unfolding vectorOf
-vector-at zero c k h = absurd (omega arith)
-vector-at (suc n) c k h = ⊎-elim last (λ l. front l (vector-at n (c / 3) k l)) (eq-or-lt-of-le (le-of-suc-le-suc h))
-  where
-    last : k ≡ n → getD (vectorOf (suc n) c) k V0 ≡ valueOf (thirds c (suc n - 1 - k) % 3)
-    last e =
-        let z : suc n - 1 - k ≤ 0 = omega arith in
-        rw (thirds-end c (suc n - 1 - k) z) (getD-at (vectorOf n (c / 3)) (valueOf (c % 3)) [] V0 k (length-vectorOf n (c / 3) ∙ sym e))
-
-    front : k < n → getD (vectorOf n (c / 3)) k V0 ≡ valueOf (thirds (c / 3) (n - 1 - k) % 3) → getD (vectorOf (suc n) c) k V0 ≡ valueOf (thirds c (suc n - 1 - k) % 3)
-    front l below =
-        let z : 0 < suc n - 1 - k = omega arith in
-        let y : suc n - 1 - k - 1 ≡ n - 1 - k = omega arith in
-        rw (thirds-step c (suc n - 1 - k) z, y)
-        (List·getD-append (vectorOf n (c / 3)) (valueOf (c % 3) ∷ []) V0 k (omega (arith, length-vectorOf n (c / 3))) ∙ below)
-
-pub vector-past : (n c k : ℕ) → n ≤ k → V0 ≡ getD (vectorOf n c) k V0
-vector-past n c k h = sym (List·getD-eq-default (vectorOf n c) V0 (omega (arith, length-vectorOf n c)))
 
 pub now-past : (n : ℕ) (w : Witness) (k : ℕ) → n ≤ k → V0 ≡ getD (now n w) k V0
 now-past n w k h = sym (List·getD-eq-default (now n w) V0 (omega (arith, now-length n w)))
@@ -106,12 +69,6 @@ module _ (n : ℕ) (w : Witness) (k : ℕ) (h : k < n) where
       sym
       (at-other (put (vectorOf n (w .previous)) (w .first) (w .«first_now»)) (w .second) (suc k) (w .«second_now») (λ z. a (omega arith))
       ∙ at-other (vectorOf n (w .previous)) (w .first) (suc k) (w .«first_now») (λ z. b (omega arith)))
-
-pub input-is : (n c j : ℕ) (r : Ternary) → j ≢ 0 → r ≡ getD (vectorOf n c) (j - 1) V0 → r ≡ at (vectorOf n c) j
-input-is n c zero r h e = absurd (h refl)
-input-is n c (suc j) r h e =
-    let z : suc j - 1 ≡ j = omega arith in
-    rw z at e
 
 -- ---- the bytes of vectors
 

@@ -22,7 +22,7 @@ use Rattle.files.specs.Files.{LF}
 use Rattle.files.specs.Parts.{join}
 use Rattle.verdict.specs.Verdict as words
 use Prim.Native.Char.{code}
-use Rattle.entry.specs.Handed.{Handed, fitsLayout}
+use Rattle.handed.specs.Handed.{Handed, fitsLayout}
 use Rattle.entry.specs.Draft.{orderAt, drafted, draftFinding, draft}
 
 -- ---- what stands alone, and two digits

@@ -15,10 +15,10 @@ use Rattle.base.proofs.Listed.{listed-length}
 use Rattle.files.specs.Files.{LF}
 use Rattle.files.specs.Parts.{join}
 use Rattle.entry.specs.Entry.{space, decimal, findingFields, witnessFields, fields, trailer, entry, Fitting}
-use Rattle.entry.specs.Handed.{Handed, verdictOf, fitsLayout}
+use Rattle.handed.specs.Handed.{Handed, verdictOf, fitsLayout}
 use Rattle.entry.specs.Draft.{orderAt}
 use Rattle.entry.proofs.Fields.{entry-length, witness-length, decimal-few}
-use Rattle.entry.proofs.Fit.{Parts, parts-of, of-parts, name-short}
+use Rattle.handed.proofs.Fit.{Parts, parts-of, of-parts, name-short}
 use Rattle.entry.proofs.Orders.{first-order, second-order}
 
 -- ---- the test and the words

@@ -19,7 +19,7 @@ use Rattle.verdict.specs.Meaning.{shown, meant, Sound, SoundFinding}
 use Rattle.verdict.specs.declared.Witness.{Witness}
 use Rattle.verdict.specs.declared.Finding.{Finding}
 use Rattle.verdict.specs.declared.Finding.the-variants.{Independent, Dependent}
-use Rattle.entry.specs.Handed.{Handed, verdictOf}
+use Rattle.handed.specs.Handed.{Handed, verdictOf}
 use Rattle.entry.specs.Draft.{orderAt, drafted, draftFinding, draft}
 
 -- ---- rising numbers

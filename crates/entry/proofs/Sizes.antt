@@ -7,10 +7,10 @@ use native.Mathlib.Omega.{arith}
 use lib.ListN.{length}
 use Rattle.verdict.specs.Verdict as words
 use Rattle.entry.specs.Entry.{entry}
-use Rattle.entry.specs.Handed.{Handed, verdictOf, fitsLayout}
+use Rattle.handed.specs.Handed.{Handed, verdictOf, fitsLayout}
 use Rattle.entry.specs.Draft.{draft}
 use Rattle.entry.proofs.Fields.{entry-length}
-use Rattle.entry.proofs.Fit.{parts-of}
+use Rattle.handed.proofs.Fit.{parts-of}
 use Rattle.entry.proofs.Orders.{draft-verdict}
 
 module _ (h : Handed) (w : ℕ) (size : w ≡ cond (fitsLayout h) (suc (length (entry 0 (draft h)))) 0) where

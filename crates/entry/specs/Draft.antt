@@ -9,7 +9,7 @@ use Rattle.verdict.specs.Meaning.{before, now}
 use Rattle.verdict.specs.declared.Witness.{Witness}
 use Rattle.verdict.specs.declared.Finding.{Finding}
 use Rattle.verdict.specs.declared.Finding.the-variants.{Independent, Dependent}
-use Rattle.entry.specs.Handed.{Handed}
+use Rattle.handed.specs.Handed.{Handed}
 
 -- place k of the order a, b, others rising, where lo and hi are a and b
 unfoldable pub orderAt : ℕ → ℕ → ℕ → ℕ → ℕ → ℕ

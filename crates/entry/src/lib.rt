@@ -1,20 +1,20 @@
-// One line of the book from a verdict: whether the verdict fits, how long its line is, and each of its bytes.
+// One line of the book from a verdict: how long it is, and each of its bytes.
 use value::Ternary;
 use verdict::Finding;
 use verdict::Witness;
 ghost use mathlib.Core.Path.{_≡_};
 ghost use mathlib.Core.Bool.{cond};
-ghost use mathlib.Core.List.{List, [], _∷_, _++_, map};
-ghost use Prim.Native.Nat.{ℕ, suc};
+ghost use mathlib.Core.List.{[], _∷_, _++_, map};
+ghost use Prim.Native.Nat.{suc};
 ghost use lib.ListN.{length, getD};
 ghost use Rattle.base.specs.Listed.{listed};
 ghost use Rattle.value.specs.declared.Ternary.the-variants.{V0};
 ghost use Rattle.value.specs.Value.{byteOf};
-ghost use Rattle.orders.specs.Vectors.{at, vectorOf};
+ghost use Rattle.orders.specs.Vectors.{vectorOf};
 ghost use Rattle.verdict.specs.Meaning.{now as current};
 ghost use Rattle.files.specs.Files.{LF};
 ghost use Rattle.entry.specs.Entry.{digitOf, decimal, witnessFields, findingFields, fields, trailer, entry};
-ghost use Rattle.entry.specs.Handed.{Handed, thirds, within as isWithin, witnessFits, findingFits, fitsLayout};
+ghost use Rattle.handed.specs.Handed.{fitsLayout};
 ghost use Rattle.entry.specs.Draft.{orderAt, drafted, draftFinding, draft};
 
 // ---- characters, and the values of vectors
@@ -23,38 +23,6 @@ fn digit(k: usize) -> u8
     ensures { λ r. ⌜ r ≡ digitOf k ⌝ }
 {
     (48 + k % 10) as u8
-}
-
-fn divide(c: usize, m: usize) -> usize
-    ensures { λ r. ⌜ r ≡ thirds c m ⌝ }
-{
-    let mut x = c;
-    let mut left = m;
-    while 0 < left {
-        x = x / 3;
-        left -= 1;
-    }
-    x
-}
-
-// Place k of the vector that c numbers.
-fn value_at(n: usize, c: usize, k: usize) -> Ternary
-    ensures { λ r. ⌜ r ≡ getD (vectorOf n c) k V0 ⌝ }
-{
-    if n <= k {
-        return Ternary::ZERO;
-    }
-    Ternary::from_rank(divide(c, n - 1 - k) % 3)
-}
-
-// Input j of that vector, counted from 1.
-fn input_at(n: usize, c: usize, j: usize) -> Ternary
-    ensures { λ r. ⌜ r ≡ at (vectorOf n c) j ⌝ }
-{
-    if j == 0 {
-        return Ternary::ZERO;
-    }
-    value_at(n, c, j - 1)
 }
 
 // Place k of the current vector.
@@ -72,7 +40,7 @@ fn now_at(n: usize, w: Witness, k: usize) -> Ternary
         let v = w.first_now;
         return v;
     }
-    value_at(n, w.previous, k)
+    handed::value_at(n, w.previous, k)
 }
 
 // ---- the bytes of a field
@@ -107,7 +75,7 @@ fn previous_byte(n: usize, c: usize, k: usize) -> u8
     if n <= k {
         return 0;
     }
-    value_at(n, c, k).to_byte()
+    handed::value_at(n, c, k).to_byte()
 }
 
 fn now_byte(n: usize, w: Witness, k: usize) -> u8
@@ -276,60 +244,12 @@ pub fn line_byte(
     trailer_byte(s, i)
 }
 
-// ---- whether a verdict fits
-
-fn within(k: usize, most: usize) -> bool
-    ensures { λ r. ⌜ r ≡ isWithin k most ⌝ }
-{
-    (1 <= k) & (k <= most)
-}
-
-fn witness_fits(n: usize, w: Witness) -> bool
-    ensures { λ r. ⌜ r ≡ witnessFits n w ⌝ }
-{
-    let i = base::wide(w.first);
-    let j = base::wide(w.second);
-    let c = w.previous;
-    let x = w.first_now;
-    let y = w.second_now;
-    let a = w.first_output;
-    let b = w.second_output;
-    let changed_first = !value::same(input_at(n, c, i), x);
-    let changed_second = !value::same(input_at(n, c, j), y);
-    let differ = !value::same(a, b);
-    (1 <= i) & (i < j) & (j <= n) & (divide(c, n) == 0) & changed_first & changed_second & differ
-}
-
-fn finding_fits(n: usize, finding: Finding) -> bool
-    ensures { λ r. ⌜ r ≡ findingFits n finding ⌝ }
-{
-    match finding {
-        Finding::Independent => true,
-        Finding::Dependent(w) => witness_fits(n, w),
-    }
-}
-
-pub fn fits(name: &[u8], inputs: usize, rows: usize, finding: Finding) -> bool
-    ensures { λ r. ⌜ r ≡ fitsLayout record { name = now (name .entry); inputs = inputs; rows = rows; finding = finding } ⌝ }
-{
-    if !text::name_fits(name) {
-        return false;
-    }
-    if !within(inputs, base::INPUTS) {
-        return false;
-    }
-    if !within(rows, base::ROWS) {
-        return false;
-    }
-    finding_fits(inputs, finding)
-}
-
 // The length of a fitting verdict's line, its LF with it; 0 where the verdict does not fit.
 pub fn line_length(name: &[u8], inputs: usize, rows: usize, finding: Finding) -> usize
     ensures { λ r. ⌜ r ≡ cond (fitsLayout record { name = now (name .entry); inputs = inputs; rows = rows; finding = finding })
         (suc (length (entry 0 (draft record { name = now (name .entry); inputs = inputs; rows = rows; finding = finding })))) 0 ⌝ }
 {
-    if !fits(name, inputs, rows, finding) {
+    if !handed::fits(name, inputs, rows, finding) {
         return 0;
     }
     let short = name.len() + decimal_length(inputs) + decimal_length(rows) + 12;

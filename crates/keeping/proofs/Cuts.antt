@@ -8,7 +8,7 @@ use Rattle.base.specs.Limits.{bookLimit}
 use Rattle.files.specs.Parts.{Without}
 use Rattle.files.specs.Files.{LF, Cut}
 use Rattle.entry.specs.Entry.{entry}
-use Rattle.entry.specs.Handed.{Handed, verdictOf}
+use Rattle.handed.specs.Handed.{Handed, verdictOf}
 use Rattle.book.specs.declared.Opened.the-variants as open-book
 use Rattle.book.specs.declared.Appended.the-variants.{Stated}
 use Rattle.book.specs.Book.{opened, appended}

@@ -11,7 +11,7 @@ use lib.Seq.{take-at, length-take-le}
 use Rattle.base.specs.Limits.{bookLimit}
 use Rattle.files.specs.Files.{LF}
 use Rattle.entry.specs.Entry.{entry}
-use Rattle.entry.specs.Handed.{Handed, verdictOf, fitsLayout}
+use Rattle.handed.specs.Handed.{Handed, verdictOf, fitsLayout}
 use Rattle.book.specs.declared.Good.{Good}
 use Rattle.book.specs.declared.Opened.{Opened}
 use Rattle.book.specs.declared.Opened.the-variants as open-book

@@ -16,9 +16,9 @@ use Rattle.verdict.specs.declared.Finding.{Finding}
 use Rattle.table.specs.Table.{Table}
 use Rattle.files.specs.Files.{LF}
 use Rattle.entry.specs.Entry.{entry}
-use Rattle.entry.specs.Handed.{Handed, verdictOf, fitsLayout}
+use Rattle.handed.specs.Handed.{Handed, verdictOf, fitsLayout}
 use Rattle.entry.specs.Draft.{draft}
-use Rattle.entry.proofs.Fit.{parts-of}
+use Rattle.handed.proofs.Fit.{parts-of}
 use Rattle.entry.proofs.Orders.{draft-verdict}
 use Rattle.entry.proofs.Sizes.{size-of}
 use Rattle.book.specs.Book.{lineOf}

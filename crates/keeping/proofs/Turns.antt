@@ -13,7 +13,7 @@ use Rattle.grammar.proofs.Moves.{read-forward}
 use Rattle.verdict.specs.declared.Finding.{Finding}
 use Rattle.reading.specs.declared.Reading.the-variants as reads
 use Rattle.reading.specs.Told.{out, readInto}
-use Rattle.entry.specs.Handed.{Handed}
+use Rattle.handed.specs.Handed.{Handed}
 use Rattle.listing.specs.declared.Next.the-variants.{Verdict}
 use Rattle.listing.specs.Next.{NextIs}
 use Rattle.listing.proofs.Nexts.{TableRead, table-read}

@@ -12,7 +12,7 @@ use Rattle.reading.specs.declared.Reading.the-variants as reads
 use Rattle.reading.specs.Told.{out, readInto}
 use Rattle.verdict.specs.declared.Finding.{Finding}
 use Rattle.judge.specs.Judge.{RightFinding}
-use Rattle.entry.specs.Handed.{Handed, fitsLayout}
+use Rattle.handed.specs.Handed.{Handed, fitsLayout}
 use Rattle.book.specs.declared.Appended.the-variants as append
 use Rattle.book.specs.Book.{lineOf, outcome, appended}
 use Rattle.book.specs.Runs.{bookOf, AllFit}

@@ -22,7 +22,7 @@ use Rattle.verdict.proofs.Numbers.{number-snoc, number-below}
 use Rattle.files.specs.Files.{LF}
 use Rattle.files.proofs.Parts.{part-short}
 use Rattle.entry.specs.Entry.{space, entry}
-use Rattle.entry.specs.Handed.{Handed, verdictOf, fitsLayout}
+use Rattle.handed.specs.Handed.{Handed, verdictOf, fitsLayout}
 use Rattle.entry.specs.Draft.{draft}
 use Rattle.entry.proofs.Sizes.{unfit-of, fit-of, drafted-of, size-of}
 use Rattle.line.specs.Told.{valueIn, numberIn, toldBy, handOf, handedBy, sameBytes, isEntry}

@@ -31,9 +31,9 @@ use Rattle.verdict.proofs.Meaning.{now-length, now-first, now-second}
 use Rattle.files.specs.Parts.{join, partAt}
 use Rattle.files.proofs.Parts.{part-join}
 use Rattle.entry.specs.Entry.{space, digitOf, decimal, witnessFields, findingFields, fields, trailer, entry, Fitting}
-use Rattle.entry.specs.Handed.{Handed, verdictOf, fitsLayout}
+use Rattle.handed.specs.Handed.{Handed, verdictOf, fitsLayout}
 use Rattle.entry.proofs.Bytes.{map-at}
-use Rattle.entry.proofs.Fit.{Parts, parts-of}
+use Rattle.handed.proofs.Fit.{Parts, parts-of}
 use Rattle.entry.proofs.Clean.{fields-clean}
 use Rattle.entry.proofs.Fields.{entry-length}
 use Rattle.entry.proofs.Fitting.{fits-fitting, fitting-handed}

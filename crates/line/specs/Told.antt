@@ -18,7 +18,7 @@ use Rattle.verdict.specs.declared.Finding.{Finding}
 use Rattle.verdict.specs.declared.Finding.the-variants.{Independent, Dependent}
 use Rattle.files.specs.Parts.{partAt}
 use Rattle.entry.specs.Entry.{space, entry}
-use Rattle.entry.specs.Handed.{Handed, verdictOf, fitsLayout}
+use Rattle.handed.specs.Handed.{Handed, verdictOf, fitsLayout}
 use Rattle.line.specs.declared.Told.{Told}
 
 -- the value that a byte says; any other byte counts as 0

@@ -16,7 +16,7 @@ use Rattle.judge.specs.Judge.{RightFinding}
 use Rattle.files.specs.Files.{LF}
 use Rattle.entry.specs.Entry.{entry}
 use Rattle.entry.specs.Draft.{draft}
-use Rattle.entry.specs.Handed.{Handed}
+use Rattle.handed.specs.Handed.{Handed}
 use Rattle.listing.specs.declared.Next.{Next}
 use Rattle.listing.specs.declared.Next.the-variants.{Verdict, End, Refused}
 

@@ -1,4 +1,1 @@
-pub mod Binds
-pub mod Columns
-pub mod Drawing
 pub mod Whole

@@ -28,11 +28,12 @@ use Rattle.header.specs.declared.Head.{Head}
 use Rattle.header.specs.declared.HeadStep.{HeadStep}
 use Rattle.header.specs.declared.HeadStep.the-variants.{At as HeadAt, Refused as HeadRefused}
 use Rattle.header.specs.Heads.{head, headWith, means, raised}
-use Rattle.reading.specs.Told.{out, told, readInto, refusalOf, drawn, withRows, Begun}
+use Rattle.reading.specs.Told.{out, told, readInto, refusalOf}
+use Rattle.rows.specs.Drawn.{drawn, withRows, Begun}
 use Rattle.reading.specs.declared.Reading.{Reading}
 use Rattle.reading.specs.declared.Reading.the-variants.{Table as TableAt, End}
-use Rattle.reading.proofs.Binds.{drawn-got, drawn-refused}
-use Rattle.reading.proofs.Drawing.{head-begun}
+use Rattle.rows.proofs.Binds.{drawn-got, drawn-refused}
+use Rattle.rows.proofs.Drawing.{head-begun}
 
 -- ---- the grammar's lines, where those before them are read
 

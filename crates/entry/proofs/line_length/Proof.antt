@@ -6,7 +6,7 @@ use denote.Ref.{now}
 use borrow.Author.Needs.{needs}
 use borrow.Author.Tests.{not-true, not-false}
 use Rattle.entry.proofs.Fields.{decimal-few, line-short, line-long}
-use Rattle.entry.proofs.Fit.{Parts, parts-of, name-short}
+use Rattle.handed.proofs.Fit.{Parts, parts-of, name-short}
 use Rattle.entry.proofs.line_length.Statement.{statement}
 use Rattle.entry.proofs.line_length.Tie as tie
 

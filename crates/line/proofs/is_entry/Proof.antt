@@ -11,7 +11,7 @@ use lib.Seq.{length-take-le}
 use Rattle.base.specs.Search.{every}
 use Rattle.base.proofs.Search.{every-none, every-more}
 use Rattle.entry.specs.Entry.{entry}
-use Rattle.entry.specs.Handed.{verdictOf}
+use Rattle.handed.specs.Handed.{verdictOf}
 use Rattle.line.specs.Told.{handOf}
 use Rattle.line.proofs.Lines.{entry-of, told-short, unfit, other-length, other-byte, same-byte, all-same}
 use Rattle.line.proofs.is_entry.Statement.{statement}

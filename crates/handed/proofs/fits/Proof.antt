@@ -2,9 +2,9 @@
 use Prim.Native.Nat.{_-_}
 use borrow.Author.Needs.{needs}
 use borrow.Author.Tests.{not-true, not-false}
-use Rattle.entry.specs.Handed.{fitsLayout}
-use Rattle.entry.proofs.fits.Statement.{statement}
-use Rattle.entry.proofs.fits.Tie as tie
+use Rattle.handed.specs.Handed.{fitsLayout}
+use Rattle.handed.proofs.fits.Statement.{statement}
+use Rattle.handed.proofs.fits.Tie as tie
 
 pub fits-spec : {M : Type 1} → statement M
 unfolding fitsLayout

@@ -29,8 +29,8 @@ use Rattle.text.specs.Reader.{Result, got, refused, bind, _>>=_, _>>_, give, ch
 use Rattle.grammar.specs.Rows.{columns, row, rows, agrees, beginsRow, noRows}
 use Rattle.text.specs.Blanks.{begins}
 use Rattle.text.proofs.Readlaws.{ahead-is}
-use Rattle.reading.specs.Told.{drawn, withRows, Begun}
-use Rattle.reading.proofs.Binds.{drawn-got, drawn-refused}
+use Rattle.rows.specs.Drawn.{drawn, withRows, Begun}
+use Rattle.rows.proofs.Binds.{drawn-got, drawn-refused}
 
 -- ---- rows, one at a time
 

@@ -1,4 +1,4 @@
-use Rattle.reading.proofs.Columns.{column-refused, column-more, columns-read}
+use Rattle.rows.proofs.Columns.{column-refused, column-more, columns-read}
 use Rattle.grammar.proofs.Behind.{behind, behind-none}
 use Rattle.grammar.specs.Rows.{columns}
 use Rattle.table.specs.Places.{inputsAt}
@@ -10,8 +10,8 @@ use native.Mathlib.Omega.{arith}
 use denote.Ref.{now}
 use mathlib.Core.Path.{_≡_, refl, sym, _∙_}
 use borrow.Author.Needs.{needs}
-use Rattle.reading.proofs.read_row.Statement.{statement}
-use Rattle.reading.proofs.read_row.Tie as tie
+use Rattle.rows.proofs.read_row.Statement.{statement}
+use Rattle.rows.proofs.read_row.Tie as tie
 
 abbrev Inv-loop : tie.InvT-loop
 Inv-loop text at sequential n a symbols₀ i₀ edge₀ column₀ symbols i edge column = (columns n sequential at (drop at text) ≡ behind (take column symbols) (columns (n - column) edge i (drop i text))) × (column ≤ n) × (length symbols ≡ inputLimit)

@@ -1,9 +1,9 @@
 -- `entry::input_at` meets its contract. Assumes nothing.
 use Prim.Native.Nat.{_-_}
 use borrow.Author.Needs.{needs}
-use Rattle.entry.proofs.Bytes.{input-is}
-use Rattle.entry.proofs.input_at.Statement.{statement}
-use Rattle.entry.proofs.input_at.Tie as tie
+use Rattle.handed.proofs.Thirds.{input-is}
+use Rattle.handed.proofs.input_at.Statement.{statement}
+use Rattle.handed.proofs.input_at.Tie as tie
 
 pub input-at-spec : {M : Type 1} → statement M
 input-at-spec =

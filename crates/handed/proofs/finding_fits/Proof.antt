@@ -1,9 +1,9 @@
 -- `entry::finding_fits` meets its contract. Assumes nothing.
 use Prim.Native.Nat.{_-_}
 use borrow.Author.Needs.{needs}
-use Rattle.entry.specs.Handed.{findingFits}
-use Rattle.entry.proofs.finding_fits.Statement.{statement}
-use Rattle.entry.proofs.finding_fits.Tie as tie
+use Rattle.handed.specs.Handed.{findingFits}
+use Rattle.handed.proofs.finding_fits.Statement.{statement}
+use Rattle.handed.proofs.finding_fits.Tie as tie
 
 pub finding-fits-spec : {M : Type 1} → statement M
 unfolding findingFits

@@ -1,9 +1,9 @@
 -- `entry::witness_fits` meets its contract. Assumes nothing.
 use Prim.Native.Nat.{_-_}
 use borrow.Author.Needs.{needs}
-use Rattle.entry.specs.Handed.{witnessFits}
-use Rattle.entry.proofs.witness_fits.Statement.{statement}
-use Rattle.entry.proofs.witness_fits.Tie as tie
+use Rattle.handed.specs.Handed.{witnessFits}
+use Rattle.handed.proofs.witness_fits.Statement.{statement}
+use Rattle.handed.proofs.witness_fits.Tie as tie
 
 pub witness-fits-spec : {M : Type 1} → statement M
 unfolding witnessFits

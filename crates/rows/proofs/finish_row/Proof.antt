@@ -1,8 +1,8 @@
 use Rattle.writing.specs.Written.{rowFrom}
-use Rattle.reading.proofs.Columns.{colon-refused, state-refused, output-refused, end-refused, row-drawn}
+use Rattle.rows.proofs.Columns.{colon-refused, state-refused, output-refused, end-refused, row-drawn}
 use borrow.Author.Needs.{needs}
-use Rattle.reading.proofs.finish_row.Statement.{statement}
-use Rattle.reading.proofs.finish_row.Tie as tie
+use Rattle.rows.proofs.finish_row.Statement.{statement}
+use Rattle.rows.proofs.finish_row.Tie as tie
 
 pub finish-row-spec : {M : Type 1} → statement M
 unfolding rowFrom

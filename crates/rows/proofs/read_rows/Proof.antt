@@ -1,4 +1,4 @@
-use Rattle.reading.proofs.Drawing.{Going, going-none, going-inputs, end-refused, end-early, end-drawn, row-refused, row-apart, row-more, full-refused, full-drawn}
+use Rattle.rows.proofs.Drawing.{Going, going-none, going-inputs, end-refused, end-early, end-drawn, row-refused, row-apart, row-more, full-refused, full-drawn}
 use Rattle.table.specs.Area.{decode}
 use Rattle.base.specs.Limits.{rowLimit}
 use lib.ListN.{length, drop}
@@ -7,8 +7,8 @@ use Prim.Native.Nat.{_+_, _-_, suc}
 use native.Mathlib.Omega.{arith}
 use mathlib.Core.Path.{_≡_, refl, sym, _∙_}
 use borrow.Author.Needs.{needs}
-use Rattle.reading.proofs.read_rows.Statement.{statement}
-use Rattle.reading.proofs.read_rows.Tie as tie
+use Rattle.rows.proofs.read_rows.Statement.{statement}
+use Rattle.rows.proofs.read_rows.Tie as tie
 
 abbrev Inv-loop : tie.InvT-loop
 Inv-loop text at sequential n a₀ i₀ k₀ t14 t15 a i k = Going text at (decode a₀) sequential n a i k × (length a ≡ length a₀)

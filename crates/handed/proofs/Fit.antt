@@ -1,12 +1,12 @@
 -- What fits, by the test and by document 01's words. Assumes nothing.
 use mathlib.Core.Path.{_≡_, refl, sym, ap, _∙_}
 use mathlib.Core.Logic.{_≢_}
-use mathlib.Core.Bool.{Bool, true, false, not, _&&_}
+use mathlib.Core.Bool.{true, not, _&&_}
 use mathlib.Core.List.{List}
-use Prim.Native.Nat.{ℕ, zero, suc, _+_, _*_, _/_, _^_, _≤_, _<_}
+use Prim.Native.Nat.{ℕ, zero, suc, _/_, _^_, _≤_, _<_}
 use native.Mathlib.Nat.{pow-suc}
 use native.Mathlib.Omega.{arith}
-use borrow.Author.Tests.{leb-true, ltb-true, eqb-true, not-true, le-leb, lt-ltb, eq-eqb, ne-eqb}
+use borrow.Author.Tests.{leb-true, ltb-true, eqb-true, le-leb, lt-ltb, eq-eqb, ne-eqb}
 use lib.Dec.{eqb, leb, ltb}
 use lib.ListN.{length}
 use Rattle.base.specs.Limits.{inputLimit, rowLimit}
@@ -20,7 +20,7 @@ use Rattle.verdict.specs.declared.Witness.{Witness}
 use Rattle.verdict.specs.declared.Finding.{Finding}
 use Rattle.verdict.specs.declared.Finding.the-variants.{Independent, Dependent}
 use Rattle.orders.proofs.Candidates.{value-rank}
-use Rattle.entry.specs.Handed.{Handed, thirds, within, witnessFits, findingFits, fitsLayout}
+use Rattle.handed.specs.Handed.{Handed, thirds, within, witnessFits, findingFits, fitsLayout}
 
 -- ---- values
 

@@ -1,9 +1,9 @@
 -- `entry::value_at` meets its contract. Assumes nothing.
 use Prim.Native.Nat.{_-_}
 use borrow.Author.Needs.{needs}
-use Rattle.entry.proofs.Bytes.{vector-at, vector-past}
-use Rattle.entry.proofs.value_at.Statement.{statement}
-use Rattle.entry.proofs.value_at.Tie as tie
+use Rattle.handed.proofs.Thirds.{vector-at, vector-past}
+use Rattle.handed.proofs.value_at.Statement.{statement}
+use Rattle.handed.proofs.value_at.Tie as tie
 
 pub value-at-spec : {M : Type 1} → statement M
 value-at-spec =

@@ -4,7 +4,7 @@ use mathlib.Core.List.{List}
 use Prim.Native.Nat.{ℕ}
 use native.Mathlib.Omega.{arith}
 use Rattle.text.specs.Reader.{Result, got, refused, Reader, bind, _>>=_}
-use Rattle.reading.specs.Told.{drawn}
+use Rattle.rows.specs.Drawn.{drawn}
 
 pub assoc : {A B C : Type 0} (m : Reader A) (f : A → Reader B) (g : B → Reader C) (k : ℕ) (s : List ℕ) → ((m >>= f) >>= g) k s ≡ (m >>= λ a. f a >>= g) k s
 unfolding _>>=_

@@ -21,8 +21,8 @@ use Rattle.fields.specs.declared.Token.{Token}
 use Rattle.fields.specs.declared.Piece.{Piece}
 use Rattle.fields.specs.declared.Piece.the-variants.{At as PieceAt, Refused as PieceRefused}
 use Rattle.fields.specs.Pieces.{column as columnRead, means, raised, asSymbol, asLevel, asOutput}
-use Rattle.reading.specs.Told.{drawn, rowTail}
-use Rattle.reading.proofs.Binds.{assoc, under}
+use Rattle.rows.specs.Drawn.{drawn, rowTail}
+use Rattle.rows.proofs.Binds.{assoc, under}
 
 column-then : {A : Type 0} (edge : Bool) (g : Symbol → Reader A) (k : ℕ) (s : List ℕ)
     → (columnRead edge >>= g) k s ≡ (skip >>= λ u. here >>= λ p. ahead (λ b. is b ":") >>= λ few. check (not few) 7 p >>= λ v. field (columnOf edge) >>= g) k s

@@ -2,10 +2,10 @@
 use Prim.Native.Nat.{_-_}
 use mathlib.Core.Path.{_≡_, refl, sym, _∙_}
 use native.Mathlib.Omega.{arith}
-use Rattle.entry.specs.Handed.{thirds}
-use Rattle.entry.proofs.Bytes.{thirds-step, thirds-end}
-use Rattle.entry.proofs.divide.Statement.{statement}
-use Rattle.entry.proofs.divide.Tie as tie
+use Rattle.handed.specs.Handed.{thirds}
+use Rattle.handed.proofs.Thirds.{thirds-step, thirds-end}
+use Rattle.handed.proofs.divide.Statement.{statement}
+use Rattle.handed.proofs.divide.Tie as tie
 
 abbrev Inv-loop : tie.InvT-loop
 Inv-loop c m x₀ left₀ x left = thirds c m ≡ thirds x left

@@ -1,0 +1,3 @@
+pub mod Binds
+pub mod Columns
+pub mod Drawing
