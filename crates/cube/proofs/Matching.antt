@@ -9,6 +9,7 @@ use native.Mathlib.Omega.{arith}
 use lib.Bits.{bitAnd}
 use lib.Dec.{eqb}
 use borrow.Author.Tests.{eq-eqb, ne-eqb}
+use Rattle.base.specs.Limits.{rowLimit}
 use Rattle.base.proofs.Bools.{lt-or-ge}
 use Rattle.orders.specs.Digits.{digitOf}
 use Rattle.memo.specs.Rows.{cellAt, restOf}
@@ -83,7 +84,7 @@ any-column s i j r (suc k) v = rw (any-column s i j r k (v / 3)) (go (eqb k i) (
     go false false = refl
 
 -- the rows of lane l that are in x
-module _ (s : List (List ℕ)) (all n m i c : ℕ) (g : List ℕ) (li : i < n) (lm : m ≤ 64) (few : (r : ℕ) → m ≤ r → bit all r ≡ false) (h : Lanes s n m i c g)
+module _ (s : List (List ℕ)) (all n m i c : ℕ) (g : List ℕ) (li : i < n) (lm : m ≤ rowLimit) (few : (r : ℕ) → m ≤ r → bit all r ≡ false) (h : Lanes s n m i c g)
     (l : ℕ) (lt : l < 27) (x : ℕ) where
   abbrev cell : ℕ
   cell = cellAt s i (c + digitOf l (n - suc i))

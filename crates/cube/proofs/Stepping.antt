@@ -10,6 +10,7 @@ use lib.Dec.{eqb}
 use lib.ListN.{length, getD, set}
 use lib.Seq.{getD-set-same, getD-set-other}
 use borrow.Author.Tests.{eqb-true, eqb-false, eq-eqb, ne-eqb}
+use Rattle.base.specs.Limits.{rowLimit}
 use Rattle.table.specs.Table.{Table}
 use Rattle.orders.specs.Digits.{digitOf}
 use Rattle.orders.proofs.Digits.{digit-is, digit-low}
@@ -36,7 +37,7 @@ few t s outs all n m d r l = rw (d .all-are) (bit-past (λ (i : ℕ). true) (len
 any-lanes : (s : List (List ℕ)) (n m i j : ℕ) (g : List ℕ) → Lanes s n m i 0 g → Lanes s n m j 0 g
 any-lanes s n m i j g h = record { row = λ r lr. record { at = λ l lt. h .row r lr .at l lt ∙ any-column s i j r n l } }
 
-pub levels-by : (s : List (List ℕ)) (outs : List ℕ) (all n m i : ℕ) (g a b c : List ℕ) → m ≤ 64 → Lanes s n m i 0 g →
+pub levels-by : (s : List (List ℕ)) (outs : List ℕ) (all n m i : ℕ) (g a b c : List ℕ) → m ≤ rowLimit → Lanes s n m i 0 g →
     Spread outs g 0 (bitAnd all (cellAt s n 0)) (0 ∷ 0 ∷ 0 ∷ 134217727 ∷ []) a →
     Spread outs g 1 (bitAnd all (cellAt s n 1)) (0 ∷ 0 ∷ 0 ∷ 134217727 ∷ []) b →
     Spread outs g 2 (bitAnd all (cellAt s n 2)) (0 ∷ 0 ∷ 0 ∷ 134217727 ∷ []) c → Levels s outs all n m (a ∷ b ∷ c ∷ [])
@@ -136,7 +137,7 @@ chosen false o x y h = refl
 pub record Stepped (s : List (List ℕ)) (outs : List ℕ) (all n m i e : ℕ) (p : List ℕ) : Type 0 where
   pub told : (t : Table) → Facts t s outs all n m → Told 3 p (stepIn t s all n i (e / 3) (e % 3))
 
-module _ (s : List (List ℕ)) (outs : List ℕ) (all n m i a o w z : ℕ) (g : List ℕ) (lev : List (List ℕ)) (p : List ℕ) (lm : m ≤ 64) (li : i < n) (la : a < 3) (lo : o < 3)
+module _ (s : List (List ℕ)) (outs : List ℕ) (all n m i a o w z : ℕ) (g : List ℕ) (lev : List (List ℕ)) (p : List ℕ) (lm : m ≤ rowLimit) (li : i < n) (la : a < 3) (lo : o < 3)
     (hg : Lanes s n m i (3 + a * 3) g) (hl : Levels s outs all n m lev) (ew : w ≡ 3 ^ (n - suc i)) (hz : Zeros w z) where
   abbrev edges : ℕ
   edges = bitOr (cellAt s i (3 + a * 3)) (bitOr (cellAt s i (3 + a * 3 + 1)) (cellAt s i (3 + a * 3 + 2)))

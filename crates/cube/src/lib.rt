@@ -5,6 +5,7 @@ ghost use mathlib.Core.List.{[], _∷_};
 ghost use lib.Bits.{bitAnd, bitOr};
 ghost use lib.Dec.{eqb};
 ghost use lib.ListN.{length, getD};
+ghost use Rattle.base.specs.Limits.{inputLimit, rowLimit};
 ghost use Rattle.table.specs.Table.{Table};
 ghost use Rattle.memo.specs.Rows.{allRows, cellAt};
 ghost use Rattle.planes.specs.Planes.{Low};
@@ -40,7 +41,7 @@ fn weight(n: usize, k: usize) -> usize
 
 // The lanes in which row r matches in column k, whose digit has weight w: it is offered number c where the digit is 0, the next ones where it is 1 and 2.
 fn lanes_in(s: &[[u64; memo::OFFERS]; memo::COLUMNS], k: usize, w: usize, c: usize, r: usize) -> u32
-    requires { ⌜ (k < 10) × Weight w × (c < 10) × (r < 64) ⌝ }
+    requires { ⌜ (k ≤ inputLimit) × Weight w × (c < 10) × (r < rowLimit) ⌝ }
     ensures { λ p. ⌜ ColumnLanes (now (s .entry)) k w c r p ⌝ }
 {
     let p = zeros(w);
@@ -63,7 +64,7 @@ fn row_lanes(
     c: usize,
     r: usize,
 ) -> u32
-    requires { ⌜ (1 < n) × (n ≤ 3) × (c < 10) × (r < 64) ⌝ }
+    requires { ⌜ (1 < n) × (n ≤ 3) × (c < 10) × (r < rowLimit) ⌝ }
     ensures { λ p. ⌜ RowLanes (now (s .entry)) n i c r p ⌝ }
 {
     let a = n - 1;
@@ -85,7 +86,7 @@ fn lanes(
     i: usize,
     c: usize,
 ) -> [u32; base::ROWS]
-    requires { ⌜ (1 < n) × (n ≤ 3) × (m ≤ 64) × (c < 10) ⌝ }
+    requires { ⌜ (1 < n) × (n ≤ 3) × (m ≤ rowLimit) × (c < 10) ⌝ }
     ensures { λ g. ⌜ Lanes (now (s .entry)) n m i c g ⌝ }
 {
     let mut g = [0u32; base::ROWS];
@@ -105,7 +106,7 @@ fn levels(
     n: usize,
     m: usize,
 ) -> [[u32; 4]; 3]
-    requires { ⌜ (1 < n) × (n ≤ 3) × (m ≤ 64) × Low (now outs) ⌝ }
+    requires { ⌜ (1 < n) × (n ≤ 3) × (m ≤ rowLimit) × Low (now outs) ⌝ }
     ensures { λ r. ⌜ Levels (now (s .entry)) (now (outs .entry)) all n m r ⌝ }
 {
     let g = lanes(s, n, m, 0, 0);
@@ -137,7 +138,7 @@ fn step_at(
     still: u32,
     o: usize,
 ) -> [u32; 3]
-    requires { ⌜ (n < 10) × (o < 3) × Low (now outs) ⌝ }
+    requires { ⌜ (n ≤ inputLimit) × (o < 3) × Low (now outs) ⌝ }
     ensures { λ r. ⌜ Step (now (outs .entry)) (now (g .entry)) o (bitAnd (bitAnd all (cellAt (now (s .entry)) n o)) edges) still (getD (now (lev .entry)) o []) r ⌝ }
 {
     let set = all & s[n][o] & edges;
@@ -148,7 +149,7 @@ fn step_at(
 
 // The rows that match in column i one of the three changes from number c on.
 fn edges_in(s: &[[u64; memo::OFFERS]; memo::COLUMNS], i: usize, c: usize) -> u64
-    requires { ⌜ (i < 10) × (c < 10) ⌝ }
+    requires { ⌜ (i ≤ inputLimit) × (c < 10) ⌝ }
     ensures { λ r. ⌜ r ≡ bitOr (cellAt (now (s .entry)) i c) (bitOr (cellAt (now (s .entry)) i (c + 1)) (cellAt (now (s .entry)) i (c + 2))) ⌝ }
 {
     s[i][c] | (s[i][c + 1] | s[i][c + 2])
@@ -164,7 +165,7 @@ fn steps(
     m: usize,
     i: usize,
 ) -> [[u32; 3]; 9]
-    requires { ⌜ (1 < n) × (n ≤ 3) × (m ≤ 64) × (i < n) × Low (now outs) × Levels (now s) (now outs) all n m (now lev) ⌝ }
+    requires { ⌜ (1 < n) × (n ≤ 3) × (m ≤ rowLimit) × (i < n) × Low (now outs) × Levels (now s) (now outs) all n m (now lev) ⌝ }
     ensures { λ r. ⌜ Steps (now (s .entry)) (now (outs .entry)) all n m i r ⌝ }
 {
     let mut f = [[0u32; 3]; 9];
@@ -259,7 +260,7 @@ pub fn pair_agrees(
     i: usize,
     j: usize,
 ) -> bool
-    requires { ⌜ (n ≤ 3) × (m ≤ 64) × (i < j) × (j < n) × Low (now outs) ⌝ }
+    requires { ⌜ (n ≤ 3) × (m ≤ rowLimit) × (i < j) × (j < n) × Low (now outs) ⌝ }
     ensures { λ r. ⌜ ((t : Table) → Given t (now (s .entry)) (now (outs .entry)) n i j → all ≡ allRows t → m ≡ length (t .rows) → Tells t i j r) ⌝ }
 {
     let steady = plain::steady_rows(s, outs, n, m);

@@ -6,6 +6,7 @@ use Prim.Native.Nat.{ℕ, suc, _+_, _*_, _≤_}
 use native.Mathlib.Omega.{arith}
 use borrow.Author.Tests.{lt-ltb}
 use lib.ListN.{length, length-append}
+use Rattle.base.specs.Limits.{inputLimit}
 use Rattle.verdict.specs.Verdict as words
 use Rattle.verdict.specs.Meaning.{meant, Disagrees, Fits, fits-independent, fits-dependent, SoundFinding}
 use Rattle.verdict.specs.declared.Finding.{Finding}
@@ -57,7 +58,7 @@ fitting-handed v f =
 
 -- ---- the longest entry
 
-finding-long : (n : ℕ) (f : words.Finding) → n ≤ 9 → Fits n f → length (join space (findingFields f)) ≤ 48
+finding-long : (n : ℕ) (f : words.Finding) → n ≤ inputLimit → Fits n f → length (join space (findingFields f)) ≤ 4 * inputLimit + 12
 finding-long n f h fits-independent = omega arith
 finding-long n f h (fits-dependent {w} i j d) =
     let a : length (w .order1) ≡ n = ap length (d .order-1 ∙ sym (first-order n i j (d .from) (d .apart) (d .to))) ∙ listed-length (orderAt i j i j) n in

@@ -1,6 +1,7 @@
 ghost use mathlib.Core.Path.{_≡_};
 ghost use mathlib.Core.Bool.{false, true};
-ghost use Prim.Native.Nat.{_<_};
+ghost use Prim.Native.Nat.{_<_, _≤_};
+ghost use Rattle.base.specs.Limits.{inputLimit};
 ghost use Rattle.base.specs.Search.{every};
 ghost use Rattle.planes.specs.Planes.{Low};
 ghost use Rattle.exchange.specs.Lanes.{rowsBy, Level, Levels, placeOf, Step, Steps, LanesTell};
@@ -17,7 +18,7 @@ fn rows_by(
     o: usize,
     c: usize,
 ) -> u64
-    requires { ⌜ (n < 10) × (h < 10) × (k < 10) × (w < 3) × (o < 3) × (c < 12) ⌝ }
+    requires { ⌜ (n ≤ inputLimit) × (h ≤ inputLimit) × (k ≤ inputLimit) × (w < 3) × (o < 3) × (c < 12) ⌝ }
     ensures { λ q. ⌜ q ≡ rowsBy (now (s .entry)) n h k r w o c ⌝ }
 {
     r & s[h][w] & s[n][o] & s[k][c]
@@ -33,7 +34,7 @@ fn level_at(
     r: u64,
     k: usize,
 ) -> [u32; 4]
-    requires { ⌜ (n < 10) × (i < 10) × (j < 10) × (k < 27) × Low (now outs) ⌝ }
+    requires { ⌜ (n ≤ inputLimit) × (i ≤ inputLimit) × (j ≤ inputLimit) × (k < 27) × Low (now outs) ⌝ }
     ensures { λ p. ⌜ Level (now (outs .entry)) (now (s .entry)) (now (g .entry)) n i j r k p ⌝ }
 {
     let o = k % 3;
@@ -51,7 +52,7 @@ fn levels(
     j: usize,
     r: u64,
 ) -> [[u32; 4]; 27]
-    requires { ⌜ (n < 10) × (i < 10) × (j < 10) × Low (now outs) ⌝ }
+    requires { ⌜ (n ≤ inputLimit) × (i ≤ inputLimit) × (j ≤ inputLimit) × Low (now outs) ⌝ }
     ensures { λ f. ⌜ Levels (now (outs .entry)) (now (s .entry)) (now (g .entry)) n i j false r f × Levels (now (outs .entry)) (now (s .entry)) (now (g .entry)) n j i true r f ⌝ }
 {
     let mut f = [[0u32; 4]; 27];
@@ -84,7 +85,7 @@ fn step_at(
     k: usize,
     o: usize,
 ) -> [u32; 3]
-    requires { ⌜ (n < 10) × (c < 10) × (h < 10) × (k < 27) × (o < 3) × Low (now outs) × Levels (now outs) (now s) (now g) n c h turned r (now lev) ⌝ }
+    requires { ⌜ (n ≤ inputLimit) × (c ≤ inputLimit) × (h ≤ inputLimit) × (k < 27) × (o < 3) × Low (now outs) × Levels (now outs) (now s) (now g) n c h turned r (now lev) ⌝ }
     ensures { λ p. ⌜ Step (now (outs .entry)) (now (s .entry)) (now (g .entry)) n c h r k o p ⌝ }
 {
     let u = k / 9;
@@ -111,7 +112,7 @@ fn steps(
     turned: bool,
     r: u64,
 ) -> [[u32; 3]; 81]
-    requires { ⌜ (n < 10) × (c < 10) × (h < 10) × Low (now outs) × Levels (now outs) (now s) (now g) n c h turned r (now lev) ⌝ }
+    requires { ⌜ (n ≤ inputLimit) × (c ≤ inputLimit) × (h ≤ inputLimit) × Low (now outs) × Levels (now outs) (now s) (now g) n c h turned r (now lev) ⌝ }
     ensures { λ f. ⌜ Steps (now (outs .entry)) (now (s .entry)) (now (g .entry)) n c h r f ⌝ }
 {
     let mut f = [[0u32; 3]; 81];
@@ -207,7 +208,7 @@ pub fn lanes_agree(
     j: usize,
     r: u64,
 ) -> bool
-    requires { ⌜ (n < 10) × (i < 10) × (j < 10) × Low (now outs) ⌝ }
+    requires { ⌜ (n ≤ inputLimit) × (i ≤ inputLimit) × (j ≤ inputLimit) × Low (now outs) ⌝ }
     ensures { λ b. ⌜ LanesTell (now (s .entry)) (now (outs .entry)) (now (g .entry)) n i j r b ⌝ }
 {
     let lev = levels(g, outs, s, n, i, j, r);

@@ -215,7 +215,7 @@ record Printed (n : ℕ) : Type 0 where
   port-list : (k : ℕ) (r : List ℕ) → portList k (portsText n ++ r) ≡ got (portsOf n) (along (portsText n) k) r
   declares : (f k : ℕ) (r : List ℕ) → declarations (suc (suc f)) (bytes "q") (bytes "q" ∷ letters n) false k (declaredText n ++ r) ≡ declarations f (bytes "q") [] false (along (declaredText n) k) r
   long : length (letters n) ≡ n
-  short : length (commas n) ≤ 17
+  short : length (commas n) < 2 * inputLimit
 
 printed : (n : ℕ) → 1 ≤ n → n ≤ inputLimit → Printed n
 unfolding readers portsOf
@@ -294,7 +294,7 @@ short-end : (sequential : Bool) (y : Level) (o : Output) → length (endText seq
 short-end false y o = omega arith
 short-end true y o = omega arith
 
-short-rows : (sequential : Bool) (n : ℕ) (l : List Row) → n ≤ inputLimit → ((i : ℕ) → i < length l → ValidRow n sequential (getD l i noRow)) → length (rowsText sequential l) ≤ 41 * length l + 8
+short-rows : (sequential : Bool) (n : ℕ) (l : List Row) → n ≤ inputLimit → ((i : ℕ) → i < length l → ValidRow n sequential (getD l i noRow)) → length (rowsText sequential l) ≤ (4 * inputLimit + 5) * length l + 8
 short-rows sequential n [] h v = omega arith
 short-rows sequential n (r ∷ l) h v =
     omega (arith, length-append (rowText sequential r) (rowsText sequential l), length-append (columnsText (r .symbols)) (endText sequential (r .state) (r .output)), short-columns (r .symbols), v 0 (omega arith) .columns, short-end sequential (r .state) (r .output), short-rows sequential n l h (λ i g. v (suc i) (omega arith)))

@@ -64,7 +64,7 @@ past-pair t i j a = rw (le-ltb j (t .inputs) a) (go (ltb i j))
 
 -- ---- how many candidates there are, as the code works it out
 
-pub vectors-low : (n p : ℕ) → n ≤ inputLimit → p ≡ 3 ^ n → p ≤ 19683
+pub vectors-low : (n p : ℕ) → n ≤ inputLimit → p ≡ 3 ^ n → p ≤ 3 ^ inputLimit
 vectors-low n p h e = rw e (power-le n inputLimit h)
 
 pub counted : (t : Table) (n p r : ℕ) → p ≡ 3 ^ n → n ≡ t .inputs → r < p * 27 → r < candidates (t .inputs)

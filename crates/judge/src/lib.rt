@@ -2,6 +2,7 @@ ghost use mathlib.Core.Path.{_≡_};
 ghost use mathlib.Core.List.{[]};
 ghost use Prim.Native.Nat.{ℕ, _*_, _^_, _<_, _≤_};
 ghost use lib.ListN.{getD};
+ghost use Rattle.base.specs.Limits.{inputLimit, rowLimit};
 ghost use Rattle.base.specs.Listed.{listed};
 ghost use Rattle.table.specs.Table.{Table};
 ghost use Rattle.planes.specs.Planes.{Low};
@@ -30,7 +31,7 @@ fn agrees(
     i: usize,
     j: usize,
 ) -> bool
-    requires { ⌜ (n ≤ 9) × (m ≤ 64) × (i < j) × (j < n) × Low (now outs) ⌝ }
+    requires { ⌜ (n ≤ inputLimit) × (m ≤ rowLimit) × (i < j) × (j < n) × Low (now outs) ⌝ }
     ensures { λ r. ⌜ ((t : Table) → Given t (now (s .entry)) all (now (outs .entry)) n m → Tells t i j r) ⌝ }
 {
     // Up to three inputs have no more vectors than a word has bits.
@@ -51,7 +52,7 @@ fn pair_first(
     i: usize,
     j: usize,
 ) -> usize
-    requires { ⌜ (n ≤ 9) × (m ≤ 64) × (c ≡ 3 ^ n * 27) × (i < 9) × Low (now outs) ⌝ }
+    requires { ⌜ (n ≤ inputLimit) × (m ≤ rowLimit) × (c ≡ 3 ^ n * 27) × (i < inputLimit) × Low (now outs) ⌝ }
     ensures { λ r. ⌜ ((t : Table) → Given t (now (s .entry)) all (now (outs .entry)) n m → r ≡ pairFirst t i j) × (r < c → (i < j) × (j < n)) ⌝ }
 {
     if j < i + 1 {
@@ -76,7 +77,7 @@ fn witness_at(
     j: usize,
     r: usize,
 ) -> Witness
-    requires { ⌜ (n ≤ 9) × (m ≤ 64) × (i < n) × (j < n) ⌝ }
+    requires { ⌜ (n ≤ inputLimit) × (m ≤ rowLimit) × (i < n) × (j < n) ⌝ }
     ensures { λ w. ⌜ ((t : Table) → Given t (now (s .entry)) all (now (outs .entry)) n m → w ≡ witnessIn t i j r) ⌝ }
 {
     let v = r / 27;
@@ -104,7 +105,7 @@ fn finding(
     n: usize,
     m: usize,
 ) -> Finding
-    requires { ⌜ (n ≤ 9) × (m ≤ 64) × Low (now outs) ⌝ }
+    requires { ⌜ (n ≤ inputLimit) × (m ≤ rowLimit) × Low (now outs) ⌝ }
     ensures { λ r. ⌜ ((t : Table) → Given t (now (s .entry)) all (now (outs .entry)) n m → r ≡ findingIn t) ⌝ }
 {
     let c = pair::power(n) * 27;
@@ -132,8 +133,8 @@ fn yes_at(
     i: usize,
     j: usize,
 ) -> bool
-    requires { ⌜ (n ≤ 9) × (m ≤ 64) × (i < 9) × (j < 9) × Low (now outs) ⌝ }
-    ensures { λ r. ⌜ ((t : Table) → Given t (now (s .entry)) all (now (outs .entry)) n m → ((k : ℕ) → k < i → getD (now (done .entry)) k [] ≡ listed (yesIn t k) 9) → r ≡ yesIn t i j) ⌝ }
+    requires { ⌜ (n ≤ inputLimit) × (m ≤ rowLimit) × (i < inputLimit) × (j < inputLimit) × Low (now outs) ⌝ }
+    ensures { λ r. ⌜ ((t : Table) → Given t (now (s .entry)) all (now (outs .entry)) n m → ((k : ℕ) → k < i → getD (now (done .entry)) k [] ≡ listed (yesIn t k) inputLimit) → r ≡ yesIn t i j) ⌝ }
 {
     if j < i {
         return done[j][i];
@@ -156,8 +157,8 @@ fn square_row(
     done: &[[bool; base::INPUTS]; base::INPUTS],
     i: usize,
 ) -> [bool; base::INPUTS]
-    requires { ⌜ (n ≤ 9) × (m ≤ 64) × (i < 9) × Low (now outs) ⌝ }
-    ensures { λ r. ⌜ ((t : Table) → Given t (now (s .entry)) all (now (outs .entry)) n m → ((k : ℕ) → k < i → getD (now (done .entry)) k [] ≡ listed (yesIn t k) 9) → r ≡ listed (yesIn t i) 9) ⌝ }
+    requires { ⌜ (n ≤ inputLimit) × (m ≤ rowLimit) × (i < inputLimit) × Low (now outs) ⌝ }
+    ensures { λ r. ⌜ ((t : Table) → Given t (now (s .entry)) all (now (outs .entry)) n m → ((k : ℕ) → k < i → getD (now (done .entry)) k [] ≡ listed (yesIn t k) inputLimit) → r ≡ listed (yesIn t i) inputLimit) ⌝ }
 {
     let mut row = [true; base::INPUTS];
     let mut j: usize = 0;
@@ -175,7 +176,7 @@ fn square_at(
     n: usize,
     m: usize,
 ) -> [[bool; base::INPUTS]; base::INPUTS]
-    requires { ⌜ (n ≤ 9) × (m ≤ 64) × Low (now outs) ⌝ }
+    requires { ⌜ (n ≤ inputLimit) × (m ≤ rowLimit) × Low (now outs) ⌝ }
     ensures { λ r. ⌜ ((t : Table) → Given t (now (s .entry)) all (now (outs .entry)) n m → r ≡ squareIn t) ⌝ }
 {
     let mut q = [[true; base::INPUTS]; base::INPUTS];

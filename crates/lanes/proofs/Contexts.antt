@@ -8,6 +8,7 @@ use native.Mathlib.Omega.{arith}
 use lib.Bits.{bitAnd}
 use lib.Dec.{eqb}
 use lib.ListN.{length, getD}
+use Rattle.base.specs.Limits.{rowLimit}
 use Rattle.base.proofs.Bools.{lt-or-ge}
 use Rattle.table.specs.Table.{Table}
 use Rattle.symbol.specs.Masks.{maskOf}
@@ -82,7 +83,7 @@ regroup true false false true = refl
 regroup true false false false = refl
 
 module _ (s : List (List ℕ)) (all i j n t u v m : ℕ) (g : List ℕ) (et : t ≡ topOf i j n) (eu : u ≡ topOf i j (t - 1)) (ev : v ≡ topOf i j (u - 1))
-    (lm : m ≤ 64) (few : (r : ℕ) → m ≤ r → bit all r ≡ false) (h : Lanes s t u v m g) where
+    (lm : m ≤ rowLimit) (few : (r : ℕ) → m ≤ r → bit all r ≡ false) (h : Lanes s t u v m g) where
   -- three columns come off
   three : (c r : ℕ) → bit (matching s all i j n c) r ≡ (bit (matching s all i j (v - 1) (c / 27)) r && (laneAt s t (c % 3) r && (laneAt s u (c / 3 % 3) r && laneAt s v (c / 9 % 3) r)))
   three c r =

@@ -1,8 +1,9 @@
 ghost use mathlib.Core.Path.{_≡_};
-ghost use Prim.Native.Nat.{ℕ, _-_, _/_, _%_, _<_, _≤_};
+ghost use Prim.Native.Nat.{ℕ, suc, _-_, _/_, _%_, _<_, _≤_};
 ghost use Rattle.value.specs.Value.{rankOf, valueOf};
 ghost use Rattle.symbol.specs.Match.{resultOf};
 ghost use lib.ListN.{length};
+ghost use Rattle.base.specs.Limits.{inputLimit, rowLimit};
 ghost use Rattle.table.specs.Table.{Table, rowAt};
 ghost use Rattle.table.specs.Area.{decode};
 ghost use Rattle.memo.specs.Rows.{Small, allRows};
@@ -38,7 +39,7 @@ fn lanes_in(
     q: u32,
     w: u32,
 ) -> u32
-    requires { ⌜ (t ≤ 10) × (r < 64) ⌝ }
+    requires { ⌜ (t ≤ suc inputLimit) × (r < rowLimit) ⌝ }
     ensures { λ l. ⌜ l ≡ lanesIn (now (s .entry)) t r p q w ⌝ }
 {
     if t == 0 {
@@ -51,7 +52,7 @@ fn lanes_in(
 
 // The lanes of row r.
 fn lane_row(s: &[[u64; memo::OFFERS]; memo::COLUMNS], t: usize, u: usize, v: usize, r: usize) -> u32
-    requires { ⌜ (t ≤ 10) × (u ≤ 10) × (v ≤ 10) × (r < 64) ⌝ }
+    requires { ⌜ (t ≤ suc inputLimit) × (u ≤ suc inputLimit) × (v ≤ suc inputLimit) × (r < rowLimit) ⌝ }
     ensures { λ w. ⌜ LaneRow (now (s .entry)) t u v r w ⌝ }
 {
     lanes_in(s, t, r, 0x1249249, 0x2492492, 0x4924924)
@@ -66,7 +67,7 @@ fn lanes(
     v: usize,
     m: usize,
 ) -> [u32; base::ROWS]
-    requires { ⌜ (t ≤ 10) × (u ≤ 10) × (v ≤ 10) × (m ≤ 64) ⌝ }
+    requires { ⌜ (t ≤ suc inputLimit) × (u ≤ suc inputLimit) × (v ≤ suc inputLimit) × (m ≤ rowLimit) ⌝ }
     ensures { λ g. ⌜ Lanes (now (s .entry)) t u v m g ⌝ }
 {
     let mut g = [0u32; base::ROWS];
@@ -91,7 +92,7 @@ fn outer_agree(
     k: usize,
     r: u64,
 ) -> bool
-    requires { ⌜ (n < 10) × (i < 10) × (j < 10) × (k ≤ 10) × Low (now outs) × Plain (now s) (now outs) n i j steady edges ⌝ }
+    requires { ⌜ (n ≤ inputLimit) × (i ≤ inputLimit) × (j ≤ inputLimit) × (k ≤ suc inputLimit) × Low (now outs) × Plain (now s) (now outs) n i j steady edges ⌝ }
     ensures { λ b. ⌜ OuterTell (now (s .entry)) (now (outs .entry)) (now (g .entry)) n i j k r b ⌝ }
 {
     if plain::only_plain(r, steady, edges) {
@@ -164,7 +165,7 @@ pub fn pair_agrees(
     i: usize,
     j: usize,
 ) -> bool
-    requires { ⌜ (n ≤ 9) × (m ≤ 64) × (i < n) × (j < n) × Low (now outs) ⌝ }
+    requires { ⌜ (n ≤ inputLimit) × (m ≤ rowLimit) × (i < n) × (j < n) × Low (now outs) ⌝ }
     ensures { λ r. ⌜ ((t : Table) → Given t (now (s .entry)) (now (outs .entry)) n i j → all ≡ allRows t → m ≡ length (t .rows) → Tells t i j r) ⌝ }
 {
     let steady = plain::steady_rows(s, outs, n, m);

@@ -11,6 +11,7 @@ use borrow.Author.Tests.{eq-eqb, ne-eqb}
 use lib.Dec.{eqb, lit<}
 use lib.ListN.{length, getD, take, length-map, length-take, length-append, List·getD-append}
 use lib.Seq.{take-suc, take-all, take-take, length-take-le, ext-getD}
+use Rattle.base.specs.Limits.{inputLimit}
 use Rattle.base.specs.Search.{every}
 use Rattle.base.proofs.Search.{every-fails, every-more}
 use Rattle.base.proofs.Bools.{both, and, clash}
@@ -45,14 +46,14 @@ pub number-more : (f : List ℕ) (k c b : ℕ) (v : Ternary) (r : ℕ) → k < l
 number-more f k c b v r h p q u w =
     rw (add-one k, take-suc f k 0 h, map-snoc (take k f) (getD f k 0), number-snoc 0 (map valueIn (take k f)) (valueIn (getD f k 0)), p, w, u, q)
 
-pub number-small : (f : List ℕ) (k : ℕ) → k ≤ 9 → k ≤ length f → numberUpTo f k < 19683
+pub number-small : (f : List ℕ) (k : ℕ) → k ≤ inputLimit → k ≤ length f → numberUpTo f k < 3 ^ inputLimit
 number-small f k h g =
     let e : length (map valueIn (take k f)) ≡ k = length-map (take k f) valueIn ∙ length-take-le k f g in
-    let p : 3 ^ k ≤ 3 ^ 9 = pow-le-pow-right {n = 3} (lit< tt) {i = k} {j = 9} h in
+    let p : 3 ^ k ≤ 3 ^ inputLimit = pow-le-pow-right {n = 3} (lit< tt) {i = k} {j = inputLimit} h in
     omega (arith, rw e at (number-below (map valueIn (take k f))), p)
 
-pub number-all : (f : List ℕ) (k c : ℕ) → length f ≤ k → k ≤ 9 → c ≡ numberUpTo f k → c ≡ numberUpTo f 9
-number-all f k c h g e = e ∙ ap (λ (l : List ℕ). numberFrom 0 (map valueIn l)) (take-all k f h ∙ sym (take-all 9 f (omega arith)))
+pub number-all : (f : List ℕ) (k c : ℕ) → length f ≤ k → k ≤ inputLimit → c ≡ numberUpTo f k → c ≡ numberUpTo f inputLimit
+number-all f k c h g e = e ∙ ap (λ (l : List ℕ). numberFrom 0 (map valueIn l)) (take-all k f h ∙ sym (take-all inputLimit f (omega arith)))
 
 -- ---- one or two digits; a value at the place of an input
 

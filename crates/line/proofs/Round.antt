@@ -10,6 +10,7 @@ use borrow.Author.Tests.{eq-eqb, ne-eqb, lt-ltb, le-ltb, eqb-true}
 use lib.Dec.{eqb, ltb}
 use lib.ListN.{length, getD, take, length-map}
 use lib.Seq.{take-all, take-append-seam, ext-getD}
+use Rattle.base.specs.Limits.{inputLimit}
 use Rattle.base.specs.Search.{every}
 use Rattle.base.proofs.Search.{every-of, every-at}
 use Rattle.base.proofs.Bools.{both, and, lt-or-ge}
@@ -121,11 +122,11 @@ module _ (s : ℕ) (h : Handed) (p : Parts h) (w : Witness) (e : h .finding ≡ 
   unfolding n shown
   second-back = ap (λ (b : ℕ). b - 48) (byte-of 4 1 (omega arith)) ∙ digit-back (w .second) (omega (arith, sound .to, p .few-inputs))
 
-  previous-back : numberFrom 0 (map valueIn (take 9 (fieldIn 4 l))) ≡ w .previous
+  previous-back : numberFrom 0 (map valueIn (take inputLimit (fieldIn 4 l))) ≡ w .previous
   unfolding n shown
   previous-back =
-      ap (λ (f : List ℕ). numberFrom 0 (map valueIn (take 9 f))) (told-field 1 (omega arith))
-      ∙ ap (λ (f : List ℕ). numberFrom 0 (map valueIn f)) (take-all 9 (map byteOf (before n w)) (omega (arith, length-map (before n w) byteOf, length-vectorOf n (w .previous), p .few-inputs)))
+      ap (λ (f : List ℕ). numberFrom 0 (map valueIn (take inputLimit f))) (told-field 1 (omega arith))
+      ∙ ap (λ (f : List ℕ). numberFrom 0 (map valueIn f)) (take-all inputLimit (map byteOf (before n w)) (omega (arith, length-map (before n w) byteOf, length-vectorOf n (w .previous), p .few-inputs)))
       ∙ ap (numberFrom 0) (values-bytes (before n w))
       ∙ number-vector n (w .previous) (sound .small)
 

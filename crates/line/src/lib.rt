@@ -7,6 +7,7 @@ ghost use mathlib.Core.Path.{_≡_};
 ghost use mathlib.Core.List.{map};
 ghost use Prim.Native.Nat.{_-_};
 ghost use lib.ListN.{length, getD, take};
+ghost use Rattle.base.specs.Limits.{inputLimit};
 ghost use Rattle.verdict.specs.Numbers.{numberFrom};
 ghost use Rattle.files.specs.Parts.{partAt};
 ghost use Rattle.entry.specs.Entry.{space};
@@ -67,7 +68,7 @@ fn value_of(b: u8) -> Ternary
 
 // The number of the vector in field 4, of which no more than nine values count.
 fn previous(line: &[u8]) -> usize
-    ensures { λ r. ⌜ r ≡ numberFrom 0 (map valueIn (take 9 (partAt space 4 (now (line .entry))))) ⌝ }
+    ensures { λ r. ⌜ r ≡ numberFrom 0 (map valueIn (take inputLimit (partAt space 4 (now (line .entry))))) ⌝ }
 {
     let size = field_length(line, 4);
     let mut c: usize = 0;

@@ -1,9 +1,10 @@
 ghost use mathlib.Core.Path.{_≡_};
 ghost use mathlib.Core.Logic.{_≢_};
 ghost use mathlib.Core.Bool.{true};
-ghost use Prim.Native.Nat.{ℕ, _+_, _*_, _^_, _<_, _≤_};
+ghost use Prim.Native.Nat.{ℕ, suc, _+_, _*_, _^_, _<_, _≤_};
 ghost use lib.Dec.{eqb};
 ghost use lib.ListN.{length, getD};
+ghost use Rattle.base.specs.Limits.{inputLimit, rowLimit};
 ghost use Rattle.base.specs.Search.{first};
 ghost use Rattle.value.specs.Value.{rankOf, valueOf};
 ghost use Rattle.table.specs.Table.{Table};
@@ -14,7 +15,7 @@ ghost use Rattle.pair.specs.Search.{Known, Given, outOf, differsBy, diff
 
 // The rows that match in column k where c is offered there.
 fn cell_at(s: &[[u64; memo::OFFERS]; memo::COLUMNS], k: usize, c: usize) -> u64
-    requires { ⌜ (k < 10) × (c < 12) ⌝ }
+    requires { ⌜ (k ≤ inputLimit) × (c < 12) ⌝ }
     ensures { λ r. ⌜ r ≡ cellAt (now (s .entry)) k c ⌝ }
 {
     s[k][c]
@@ -29,7 +30,7 @@ fn others_of(
     k: usize,
     v: usize,
 ) -> u64
-    requires { ⌜ k ≤ 10 ⌝ }
+    requires { ⌜ k ≤ suc inputLimit ⌝ }
     ensures { λ r. ⌜ r ≡ othersOf (now (s .entry)) all i j k v ⌝ }
 {
     if k == 0 {
@@ -55,7 +56,7 @@ fn lowest_of(n: usize, m: u64) -> usize
 
 // What row i answers where the old output is value number o.
 fn out_at(outs: &[u8; planes::OUTPUTS], i: usize, o: usize) -> usize
-    requires { ⌜ (i < 64) × (o < 3) ⌝ }
+    requires { ⌜ (i < rowLimit) × (o < 3) ⌝ }
     ensures { λ r. ⌜ (r ≡ outOf (getD (now (outs .entry)) (i * 3 + o) 0)) × (r < 3) ⌝ }
 {
     let k = base::wide(outs[i * 3 + o]);
@@ -64,7 +65,7 @@ fn out_at(outs: &[u8; planes::OUTPUTS], i: usize, o: usize) -> usize
 
 // What the rows answer: the lowest level row, else the lowest edge row, else x.
 fn out_by(outs: &[u8; planes::OUTPUTS], m: usize, level: u64, edge: u64, o: usize) -> usize
-    requires { ⌜ (m ≤ 64) × (o < 3) ⌝ }
+    requires { ⌜ (m ≤ rowLimit) × (o < 3) ⌝ }
     ensures { λ r. ⌜ ((t : Table) → Outputs t (now (outs .entry)) → m ≡ length (t .rows) → r ≡ rankOf (outBy t level edge (valueOf o))) × (r < 3) ⌝ }
 {
     let i = lowest_of(m, level);
@@ -89,7 +90,7 @@ fn entry(
     x: usize,
     o: usize,
 ) -> usize
-    requires { ⌜ (m ≤ 64) × (j < 9) × (d < 3) × (x < 3) × (o < 3) ⌝ }
+    requires { ⌜ (m ≤ rowLimit) × (j < inputLimit) × (d < 3) × (x < 3) × (o < 3) ⌝ }
     ensures { λ r. ⌜ ((t : Table) → Known t (now (s .entry)) (now (outs .entry)) m → r ≡ entryOf t (now (s .entry)) j rest d x o) × (r < 3) ⌝ }
 {
     if x == d {
@@ -115,7 +116,7 @@ fn first_then(
     y: usize,
     o: usize,
 ) -> usize
-    requires { ⌜ (m ≤ 64) × (i < 9) × (j < 9) × (a < 3) × (b < 3) × (x < 3) × (y < 3) × (o < 3) ⌝ }
+    requires { ⌜ (m ≤ rowLimit) × (i < inputLimit) × (j < inputLimit) × (a < 3) × (b < 3) × (x < 3) × (y < 3) × (o < 3) ⌝ }
     ensures { λ r. ⌜ ((t : Table) → Known t (now (s .entry)) (now (outs .entry)) m → r ≡ firstThen t (now (s .entry)) i j rest a b x y o) × (r < 3) ⌝ }
 {
     let p = entry(s, outs, m, i, rest & cell_at(s, j, b), x, a, o);
@@ -136,7 +137,7 @@ fn agree_o(
     y: usize,
     o: usize,
 ) -> bool
-    requires { ⌜ (m ≤ 64) × (i < 9) × (j < 9) × (a < 3) × (b < 3) × (x < 3) × (y < 3) × (o < 3) ⌝ }
+    requires { ⌜ (m ≤ rowLimit) × (i < inputLimit) × (j < inputLimit) × (a < 3) × (b < 3) × (x < 3) × (y < 3) × (o < 3) ⌝ }
     ensures { λ r. ⌜ ((t : Table) → Known t (now (s .entry)) (now (outs .entry)) m → r ≡ eqb (firstThen t (now (s .entry)) i j rest a b x y o) (secondThen t (now (s .entry)) i j rest a b x y o)) ⌝ }
 {
     let one = first_then(s, outs, m, i, j, rest, a, b, x, y, o);
@@ -157,7 +158,7 @@ fn agree_y(
     x: usize,
     y: usize,
 ) -> bool
-    requires { ⌜ (m ≤ 64) × (i < 9) × (j < 9) × (a < 3) × (b < 3) × (x < 3) × (y < 3) ⌝ }
+    requires { ⌜ (m ≤ rowLimit) × (i < inputLimit) × (j < inputLimit) × (a < 3) × (b < 3) × (x < 3) × (y < 3) ⌝ }
     ensures { λ r. ⌜ ((t : Table) → Known t (now (s .entry)) (now (outs .entry)) m → r ≡ true → (o : ℕ) → o < 3 → firstThen t (now (s .entry)) i j rest a b x y o ≡ secondThen t (now (s .entry)) i j rest a b x y o) ⌝ }
 {
     agree_o(s, outs, m, i, j, rest, a, b, x, y, 0)
@@ -177,7 +178,7 @@ fn agree_x(
     b: usize,
     x: usize,
 ) -> bool
-    requires { ⌜ (m ≤ 64) × (i < 9) × (j < 9) × (a < 3) × (b < 3) × (x < 3) ⌝ }
+    requires { ⌜ (m ≤ rowLimit) × (i < inputLimit) × (j < inputLimit) × (a < 3) × (b < 3) × (x < 3) ⌝ }
     ensures { λ r. ⌜ ((t : Table) → Known t (now (s .entry)) (now (outs .entry)) m → r ≡ true → (y o : ℕ) → y < 3 → o < 3 → y ≢ b → firstThen t (now (s .entry)) i j rest a b x y o ≡ secondThen t (now (s .entry)) i j rest a b x y o) ⌝ }
 {
     agree_y(s, outs, m, i, j, rest, a, b, x, (b + 1) % 3)
@@ -195,7 +196,7 @@ fn agree_v(
     a: usize,
     b: usize,
 ) -> bool
-    requires { ⌜ (m ≤ 64) × (i < 9) × (j < 9) × (a < 3) × (b < 3) ⌝ }
+    requires { ⌜ (m ≤ rowLimit) × (i < inputLimit) × (j < inputLimit) × (a < 3) × (b < 3) ⌝ }
     ensures { λ r. ⌜ ((t : Table) → Known t (now (s .entry)) (now (outs .entry)) m → r ≡ true → 27 ≡ first 27 (differsBy t (now (s .entry)) i j rest a b)) ⌝ }
 {
     agree_x(s, outs, m, i, j, rest, a, b, (a + 1) % 3)
@@ -213,7 +214,7 @@ fn first_case(
     a: usize,
     b: usize,
 ) -> usize
-    requires { ⌜ (m ≤ 64) × (i < 9) × (j < 9) × (a < 3) × (b < 3) ⌝ }
+    requires { ⌜ (m ≤ rowLimit) × (i < inputLimit) × (j < inputLimit) × (a < 3) × (b < 3) ⌝ }
     ensures { λ r. ⌜ ((t : Table) → Known t (now (s .entry)) (now (outs .entry)) m → r ≡ first 27 (differsBy t (now (s .entry)) i j rest a b)) ⌝ }
 {
     if agree_v(s, outs, m, i, j, rest, a, b) {
@@ -242,7 +243,7 @@ fn scan(
     wj: usize,
     q: usize,
 ) -> usize
-    requires { ⌜ (n ≤ 9) × (m ≤ 64) × (i < 9) × (j < 9) × (0 < wi) × (0 < wj) × (q ≤ 19683) ⌝ }
+    requires { ⌜ (n ≤ inputLimit) × (m ≤ rowLimit) × (i < inputLimit) × (j < inputLimit) × (0 < wi) × (0 < wj) × (q ≤ 3 ^ inputLimit) ⌝ }
     ensures { λ r. ⌜ ((t : Table) → Known t (now (s .entry)) (now (outs .entry)) m → r ≡ first (q * 27) (differsIn t (now (s .entry)) all n i j wi wj)) ⌝ }
 {
     let mut v: usize = 0;
@@ -259,7 +260,7 @@ fn scan(
 
 // 3 to the power n.
 pub fn power(n: usize) -> usize
-    requires { ⌜ n ≤ 9 ⌝ }
+    requires { ⌜ n ≤ inputLimit ⌝ }
     ensures { λ r. ⌜ r ≡ 3 ^ n ⌝ }
 {
     let mut p: usize = 1;
@@ -281,7 +282,7 @@ pub fn first_difference(
     i: usize,
     j: usize,
 ) -> usize
-    requires { ⌜ (n ≤ 9) × (m ≤ 64) × (i < n) × (j < n) ⌝ }
+    requires { ⌜ (n ≤ inputLimit) × (m ≤ rowLimit) × (i < n) × (j < n) ⌝ }
     ensures { λ r. ⌜ ((t : Table) → Given t (now (s .entry)) all (now (outs .entry)) n m → r ≡ firstAt t i j) ⌝ }
 {
     let wi = power(n - (i + 1));
@@ -303,7 +304,7 @@ pub fn output_at(
     y: usize,
     o: usize,
 ) -> usize
-    requires { ⌜ (n ≤ 9) × (m ≤ 64) × (i < n) × (j < n) × (x < 3) × (y < 3) × (o < 3) ⌝ }
+    requires { ⌜ (n ≤ inputLimit) × (m ≤ rowLimit) × (i < n) × (j < n) × (x < 3) × (y < 3) × (o < 3) ⌝ }
     ensures { λ r. ⌜ ((t : Table) → Given t (now (s .entry)) all (now (outs .entry)) n m → r ≡ outputAt t i j v x y o) ⌝ }
 {
     let wi = power(n - (i + 1));

@@ -12,10 +12,10 @@ use Rattle.judge.proofs.finding.Statement.{statement}
 use Rattle.judge.proofs.finding.Tie as tie
 
 abbrev Inv-loop : tie.InvT-loop
-Inv-loop s all outs n m c p₀ p = (p ≤ 9 * n) × ((t : Table) → Given t s all outs n m → (k : ℕ) → k < p → pairDiffers t (k / inputLimit) (k % inputLimit) ≡ false)
+Inv-loop s all outs n m c p₀ p = (p ≤ inputLimit * n) × ((t : Table) → Given t s all outs n m → (k : ℕ) → k < p → pairDiffers t (k / inputLimit) (k % inputLimit) ≡ false)
 
 abbrev μ-loop : tie.MeasureT-loop
-μ-loop s all outs n m c p₀ p = 9 * n - p
+μ-loop s all outs n m c p₀ p = inputLimit * n - p
 
 pub finding-spec : {M : Type 1} → statement M
 finding-spec =

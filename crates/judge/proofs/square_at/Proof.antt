@@ -2,6 +2,7 @@ use Prim.Native.Nat.{ℕ, _-_}
 use mathlib.Core.List.{[]}
 use native.Mathlib.Omega.{arith}
 use borrow.Author.Needs.{needs}
+use Rattle.base.specs.Limits.{inputLimit}
 use Rattle.base.specs.Listed.{listed}
 use Rattle.base.proofs.Listed.{Filled, filled-none, filled-more, filled-all}
 use Rattle.table.specs.Table.{Table}
@@ -12,10 +13,10 @@ use Rattle.judge.proofs.square_at.Statement.{statement}
 use Rattle.judge.proofs.square_at.Tie as tie
 
 abbrev Inv-loop : tie.InvT-loop
-Inv-loop s all outs n m q₀ i₀ q i = (t : Table) → Given t s all outs n m → Filled (λ (k : ℕ). listed (yesIn t k) 9) 9 q i
+Inv-loop s all outs n m q₀ i₀ q i = (t : Table) → Given t s all outs n m → Filled (λ (k : ℕ). listed (yesIn t k) inputLimit) inputLimit q i
 
 abbrev μ-loop : tie.MeasureT-loop
-μ-loop s all outs n m q₀ i₀ q i = 9 - i
+μ-loop s all outs n m q₀ i₀ q i = inputLimit - i
 
 pub square-at-spec : {M : Type 1} → statement M
 unfolding squareIn
@@ -24,7 +25,7 @@ square-at-spec =
     (tie.spec
     Inv-loop
     μ-loop
-    (λ c. λ t G. filled-none _ 9 _)
+    (λ c. λ t G. filled-none _ inputLimit _)
     (λ c κs. (omega arith, omega arith, omega arith, c .before .before .before .pre .2))
     (λ c. omega arith)
     (λ c. search needs)
@@ -32,5 +33,5 @@ square-at-spec =
     (λ c. omega arith)
     (λ c. λ t G.
     let l = c .before .before .before in
-    filled-more _ 9 _ _ _ (c .before .before .loop-test .taken) (c .square-row .ensures t G (filled-at _ 9 _ _ [] (l .loop .inv t G))) (l .loop .inv t G))
-    (λ c. λ t G. filled-all _ 9 _ _ (c .loop-test .left) (c .before .loop .inv t G)))
+    filled-more _ inputLimit _ _ _ (c .before .before .loop-test .taken) (c .square-row .ensures t G (filled-at _ inputLimit _ _ [] (l .loop .inv t G))) (l .loop .inv t G))
+    (λ c. λ t G. filled-all _ inputLimit _ _ (c .loop-test .left) (c .before .loop .inv t G)))

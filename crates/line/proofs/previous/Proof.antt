@@ -4,6 +4,7 @@ use mathlib.Core.Path.{_≡_}
 use native.Mathlib.Omega.{arith}
 use denote.Ref.{now}
 use borrow.Author.Needs.{needs}
+use Rattle.base.specs.Limits.{inputLimit}
 use Rattle.files.specs.Parts.{partAt}
 use Rattle.entry.specs.Entry.{space}
 use Rattle.orders.proofs.Candidates.{rank-low}
@@ -12,7 +13,7 @@ use Rattle.line.proofs.previous.Statement.{statement}
 use Rattle.line.proofs.previous.Tie as tie
 
 abbrev Inv-loop : tie.InvT-loop
-Inv-loop line size c₀ k₀ c k = (k ≤ 9) × (k ≤ size) × (c ≡ numberUpTo (partAt space 4 line) k)
+Inv-loop line size c₀ k₀ c k = (k ≤ inputLimit) × (k ≤ size) × (c ≡ numberUpTo (partAt space 4 line) k)
 
 abbrev μ-loop : tie.MeasureT-loop
 μ-loop line size c₀ k₀ c k = size - k
@@ -26,7 +27,7 @@ previous-spec =
     (λ c κs. search needs)
     (λ c. (omega arith, omega arith, number-none (partAt space 4 (now (c .before .before .args .line)))))
     (λ c. let l = c .before .before in
-    let e : l .loop .k ≡ 9 = omega (arith, l .loop .inv .0) in
+    let e : l .loop .k ≡ inputLimit = omega (arith, l .loop .inv .0) in
     rw e at (l .loop .inv .2))
     (λ c. let l = c .before .before in
     let f = partAt space 4 (now (l .before .before .before .args .line)) in

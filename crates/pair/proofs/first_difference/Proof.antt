@@ -1,4 +1,5 @@
 use native.Mathlib.Omega.{arith}
+use Rattle.base.specs.Limits.{inputLimit}
 use Rattle.orders.proofs.Digits.{power-le}
 use Rattle.pair.proofs.Scans.{weight-some, first-at}
 use Rattle.pair.proofs.first_difference.Statement.{statement}
@@ -18,7 +19,7 @@ first-difference-spec =
     (λ c κs.
     let p = c .before in
     let s = p .before .before in
-    (omega arith, omega arith, omega arith, omega arith, weight-some _ _ _ (p .before .power .ensures), weight-some _ _ _ (p .power2 .ensures), rw (c .power3 .ensures) (power-le _ 9 (s .pre .0))))
+    (omega arith, omega arith, omega arith, omega arith, weight-some _ _ _ (p .before .power .ensures), weight-some _ _ _ (p .power2 .ensures), rw (c .power3 .ensures) (power-le _ inputLimit (s .pre .0))))
     (λ c.
     let q = c .before in
     let p = q .before in
