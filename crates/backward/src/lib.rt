@@ -1,3 +1,5 @@
+#![tactic(auto)]
+
 // The way back through a book: the last trailer points to where its entry starts, and so on to the first.
 ghost use Rattle.std.specs.Prelude.{◌≡◌, ◌-◌};
 ghost use Rattle.backward.specs.Back.{number_said, pointed, start_before, fetched_before};

@@ -1,3 +1,5 @@
+#![tactic(auto)]
+
 // Every public call for programs in C and in Rust. A call answers 0, or the number of a refusal, and tells through
 // `answer` what it was asked for, or the refusal's place.
 ghost use Rattle.std.specs.Prelude.{◌≡◌, ◌<◌, length, get_or, cond};

@@ -1,3 +1,5 @@
+#![tactic(auto)]
+
 // The book: opening, append, fetch, and a reader that walks back.
 ghost use Rattle.std.specs.Prelude.{◌≡◌, cond, [], ◌∷◌, ◌++◌, ◌+◌, ◌≤◌, length, get_or, ltb};
 ghost use Rattle.base.specs.Limits.{book_limit};
@@ -12,27 +14,27 @@ ghost use Rattle.book.specs.Book.{opened_file, opened, outcome, with_bytes, appe
 
 use verdict::Finding;
 
-#[derive(Drop)]
+#[derive(Clone, Copy)]
 pub struct Good {
     pub entries: usize,
     pub good: usize,
     pub torn: usize,
 }
 
-#[derive(Drop)]
+#[derive(Clone, Copy)]
 pub enum Opened {
     Book(Good),
     Refused(u8, usize),
 }
 
-#[derive(Drop)]
+#[derive(Clone, Copy)]
 pub enum Appended {
     Stated(usize),
     Refused(u8, usize),
 }
 
 // An entry as it lies in the lent book: its name starts at `name_at`.
-#[derive(Drop)]
+#[derive(Clone, Copy)]
 pub struct Entry {
     pub name_at: usize,
     pub name_length: usize,
@@ -41,7 +43,7 @@ pub struct Entry {
     pub finding: Finding,
 }
 
-#[derive(Drop)]
+#[derive(Clone, Copy)]
 pub enum Fetched {
     Entry(Entry),
     Refused(u8, usize),

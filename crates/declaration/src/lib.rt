@@ -1,3 +1,5 @@
+#![tactic(auto)]
+
 // What one declaration says: its word, the output's name, the starting value.
 ghost use Rattle.std.specs.Prelude.{◌≡◌, List, ℕ, drop};
 ghost use Rattle.value.specs.Value.{value_of};

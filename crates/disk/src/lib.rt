@@ -1,9 +1,11 @@
+#![tactic(auto)]
+
 // Files as the programs use them: loaded whole into a lent buffer, stored at a place and flushed.
 // No contract can say what a file holds; what is proved is that every count lies within its buffer.
 ghost use Rattle.std.specs.Prelude.{◌≤◌, length};
 ghost use Rattle.disk.specs.Loaded.{Within};
 
-#[derive(Drop)]
+#[derive(Clone, Copy)]
 pub enum Loaded {
     Bytes(usize),
     Failed,

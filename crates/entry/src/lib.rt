@@ -1,3 +1,5 @@
+#![tactic(auto)]
+
 // One line of the book from a verdict: how long it is, and each of its bytes.
 ghost use Rattle.std.specs.Prelude.{◌≡◌, cond, [], ◌∷◌, ◌++◌, map, suc, length, get_or};
 ghost use Rattle.base.specs.Listed.{listed};

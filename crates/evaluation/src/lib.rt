@@ -1,3 +1,5 @@
+#![tactic(auto)]
+
 ghost use Rattle.std.specs.Prelude.{◌≡◌, ◌<◌, eqb, length, get_or};
 ghost use Rattle.base.specs.Search.{some};
 ghost use Rattle.value.specs.declared.Ternary.TheVariants.{V0};
@@ -108,7 +110,7 @@ fn first_fault(n: usize, l: &[u8]) -> usize
 }
 
 // What evaluation of an order answers: the output, or a refusal with its number and place.
-#[derive(Drop)]
+#[derive(Clone, Copy)]
 pub enum Evaluated {
     Output(Ternary),
     Refused(u8, usize),

@@ -1,3 +1,5 @@
+#![tactic(auto)]
+
 ghost use Rattle.std.specs.Prelude.{◌≡◌, false, true, ◌<◌, ◌≤◌};
 ghost use Rattle.base.specs.Limits.{input_limit};
 ghost use Rattle.base.specs.Search.{every};

@@ -1,3 +1,5 @@
+#![tactic(auto)]
+
 // The fields of a row: symbols, columns, states, outputs.
 ghost use Rattle.std.specs.Prelude.{◌≡◌, [], drop};
 ghost use Rattle.text.specs.Bytes.{is_symbol};
@@ -11,21 +13,21 @@ use symbol::{Level, Output, Symbol};
 use text::Step;
 
 // What stands in a field: a symbol or `-`.
-#[derive(Drop)]
+#[derive(Clone, Copy)]
 pub enum Token {
     Entry(Symbol),
     Dash,
 }
 
 // What one byte says.
-#[derive(Drop)]
+#[derive(Clone, Copy)]
 pub enum Said {
     Is(Token),
     Nothing,
 }
 
 // A token and the place behind it, or a refusal's number and place.
-#[derive(Drop)]
+#[derive(Clone, Copy)]
 pub enum Piece {
     At(Token, usize),
     Refused(u8, usize),

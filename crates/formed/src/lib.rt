@@ -1,3 +1,5 @@
+#![tactic(auto)]
+
 ghost use Rattle.std.specs.Prelude.{◌≡◌, ◌&&◌, ◌||◌, not, ◌<◌, ◌≤◌, length};
 ghost use Rattle.table.specs.Table.{row_at};
 ghost use Rattle.table.specs.Match.{edge_at};

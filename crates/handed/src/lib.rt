@@ -1,3 +1,5 @@
+#![tactic(auto)]
+
 // A verdict as calls hand it over: the vector that a witness numbers, and whether the verdict fits the layout.
 ghost use Rattle.std.specs.Prelude.{◌≡◌, get_or};
 ghost use Rattle.value.specs.declared.Ternary.TheVariants.{V0};

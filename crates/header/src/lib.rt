@@ -1,3 +1,5 @@
+#![tactic(auto)]
+
 // From `(` to `table`: the port list, the declarations, the starting value.
 ghost use Rattle.std.specs.Prelude.{◌≡◌, false, ◌+◌, ◌≤◌, drop};
 ghost use Rattle.base.specs.Limits.{input_limit};
@@ -11,7 +13,7 @@ use text::Step;
 use value::Ternary;
 
 // What the header and the declarations say.
-#[derive(Drop)]
+#[derive(Clone, Copy)]
 pub struct Head {
     pub inputs: usize,
     pub sequential: bool,
@@ -19,7 +21,7 @@ pub struct Head {
 }
 
 // A head and the place behind it, or a refusal's number and place.
-#[derive(Drop)]
+#[derive(Clone, Copy)]
 pub enum HeadStep {
     At(Head, usize),
     Refused(u8, usize),

@@ -1,3 +1,5 @@
+#![tactic(auto)]
+
 ghost use Rattle.std.specs.Prelude.{◌≡◌, [], ℕ, ◌*◌, ◌^◌, ◌<◌, ◌≤◌, get_or};
 ghost use Rattle.base.specs.Limits.{input_limit, row_limit};
 ghost use Rattle.base.specs.Listed.{listed};
@@ -13,7 +15,7 @@ use value::Ternary;
 use verdict::{Finding, Witness};
 
 // What judging answers: the finding, or a refusal with its number and place.
-#[derive(Drop)]
+#[derive(Clone, Copy)]
 pub enum Judged {
     Found(Finding),
     Refused(u8, usize),

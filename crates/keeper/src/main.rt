@@ -1,3 +1,5 @@
+#![tactic(auto)]
+
 // keeper LIBRARY BOOK: leaves in the book one entry for each primitive of the library, and goes on where an earlier run was cut.
 mod places;
 

@@ -1,3 +1,5 @@
+#![tactic(auto)]
+
 // What the keeper does for each primitive, on slices: count them, and compare or append the next verdict.
 ghost use Rattle.std.specs.Prelude.{◌≡◌};
 ghost use Rattle.table.specs.Area.{decode};
@@ -9,14 +11,14 @@ use reading::Reading;
 use verdict::Finding;
 
 // How many primitives a text has, or its first refusal.
-#[derive(Drop)]
+#[derive(Clone, Copy)]
 pub enum Counted {
     Primitives(usize),
     Refused(u8, usize),
 }
 
 // What became of the next primitive's entry: the place after the primitive, and the entry's end.
-#[derive(Drop)]
+#[derive(Clone, Copy)]
 pub enum Settled {
     Kept(usize, usize),
     Added(usize, usize),

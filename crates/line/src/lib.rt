@@ -1,3 +1,5 @@
+#![tactic(auto)]
+
 // One line of the book read: the verdict that its fields tell, and whether the line is just that verdict's entry.
 ghost use Rattle.std.specs.Prelude.{◌≡◌, map, ◌-◌, length, get_or, take};
 ghost use Rattle.base.specs.Limits.{input_limit};
@@ -10,7 +12,7 @@ use value::{Byte, Ternary};
 use verdict::{Finding, Witness};
 
 // What the fields of a line tell; its name is the line's first `name_length` bytes.
-#[derive(Drop)]
+#[derive(Clone, Copy)]
 pub struct Told {
     pub name_length: usize,
     pub inputs: usize,

@@ -1,3 +1,5 @@
+#![tactic(auto)]
+
 // lister: reads library text from standard input and prints each verdict as its entry without space and trailer, one line each.
 // At a refusal it prints the line `refused N at PLACE` and stops.
 ghost use Rattle.std.specs.Prelude.{◌≤◌, length};
@@ -9,7 +11,7 @@ use listing::Next;
 use verdict::Finding;
 
 // Where the list goes on and how many bytes are gathered, or that it ends.
-#[derive(Drop)]
+#[derive(Clone, Copy)]
 pub enum Listed {
     At(usize, usize),
     Done,

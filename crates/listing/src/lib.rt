@@ -1,3 +1,5 @@
+#![tactic(auto)]
+
 // What the programs share: the next verdict of a library's text, and whether it stands in a book.
 ghost use Rattle.std.specs.Prelude.{◌≡◌, ◌+◌, get_or};
 ghost use Rattle.listing.specs.Next.{NextIs, stands_in};
@@ -6,7 +8,7 @@ use judge::Judged;
 use reading::Reading;
 use verdict::Finding;
 
-#[derive(Drop)]
+#[derive(Clone, Copy)]
 pub enum Next {
     Verdict(Finding, usize),
     End,

@@ -1,3 +1,5 @@
+#![tactic(auto)]
+
 // What may be offered to a symbol that two stored bytes stand for, as a set: a bit for each value and each change.
 ghost use Rattle.std.specs.Prelude.{◌≡◌};
 ghost use Rattle.symbol.specs.declared.Symbol.TheVariants.{Held, Edge};

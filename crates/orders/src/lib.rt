@@ -1,1 +1,3 @@
+#![tactic(auto)]
+
 // Pure theory: the definitions are in specs/, the theorems in proofs/.

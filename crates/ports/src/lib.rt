@@ -1,3 +1,5 @@
+#![tactic(auto)]
+
 // The ports of the header, kept as places of the text, and the `input` lists that name them again.
 ghost use Rattle.std.specs.Prelude.{◌≡◌, not, ◌&&◌, ◌+◌, ◌≤◌, eqb, drop};
 ghost use Rattle.base.specs.Limits.{input_limit};
@@ -46,7 +48,7 @@ fn is_fresh(flags: [bool; PORTS], n: usize, j: usize) -> bool
 }
 
 // The places of the ports, beside the step that read them.
-#[derive(Drop)]
+#[derive(Clone, Copy)]
 pub struct Inputs {
     pub step: Step,
     pub starts: [usize; PORTS],
@@ -122,7 +124,7 @@ pub fn read_inputs(text: &[u8], at: usize, a: usize, e: usize) -> Inputs
 }
 
 // The flags behind an `input` list, beside the step that read it.
-#[derive(Drop)]
+#[derive(Clone, Copy)]
 pub struct Flagged {
     pub step: Step,
     pub flags: [bool; PORTS],

@@ -1,3 +1,5 @@
+#![tactic(auto)]
+
 // A reader bound to the lent book: it walks from the last trailer back to the first entry.
 ghost use Rattle.std.specs.Prelude.{◌≡◌};
 ghost use Rattle.book.specs.Book.{fetched};
@@ -6,7 +8,7 @@ ghost use Rattle.backward.specs.Back.{start_before, fetched_before};
 use book::Fetched;
 
 // `at` is the end of the entry that is next on the way back.
-#[derive(Drop)]
+#[derive(Clone, Copy)]
 pub struct Reader<'a> {
     pub book: &'a [u8],
     pub at: usize,

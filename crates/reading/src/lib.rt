@@ -1,3 +1,5 @@
+#![tactic(auto)]
+
 // Reading one primitive from a text into the area of a table.
 ghost use Rattle.std.specs.Prelude.{◌≡◌, length, drop};
 ghost use Rattle.table.specs.Places.{area_size};
@@ -10,7 +12,7 @@ ghost use Rattle.rows.specs.Drawn.{drawn};
 use header::HeadStep;
 use text::Step;
 
-#[derive(Drop)]
+#[derive(Clone, Copy)]
 pub enum Reading {
     // The place after `endprimitive`; the area holds the table.
     Table(usize),

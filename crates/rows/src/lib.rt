@@ -1,3 +1,5 @@
+#![tactic(auto)]
+
 // Reading the rows of a table from a text into its area.
 ghost use Rattle.std.specs.Prelude.{◌≡◌, [], ◌≤◌, get_or, take, drop};
 ghost use Rattle.base.specs.Limits.{input_limit, row_limit};

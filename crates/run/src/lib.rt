@@ -1,3 +1,5 @@
+#![tactic(auto)]
+
 // The run over a library: each primitive's entry is kept or stored, and what was done is said.
 
 ghost use Rattle.std.specs.Prelude.{◌<◌, ◌≤◌, length};
@@ -7,14 +9,14 @@ ghost use Rattle.run.specs.Run.{Apart, UpTo, Goes, Runs};
 use keeping::Settled;
 
 // Up to which place the file holds the book, or that a write failed.
-#[derive(Drop)]
+#[derive(Clone, Copy)]
 pub enum Held {
     To(usize),
     Failed,
 }
 
 // Where the run goes on in the library and in the book, or that it ends.
-#[derive(Drop)]
+#[derive(Clone, Copy)]
 pub enum Went {
     On(usize, usize),
     Done,
@@ -22,7 +24,7 @@ pub enum Went {
 }
 
 // The length of the book that holds all entries, or that the run stopped before.
-#[derive(Drop)]
+#[derive(Clone, Copy)]
 pub enum Ran {
     All(usize),
     Stopped,

@@ -1,3 +1,5 @@
+#![tactic(auto)]
+
 // What the keeper says, a line for each primitive.
 ghost use Rattle.std.specs.Prelude.{◌≡◌, ◌-◌};
 

@@ -1,3 +1,5 @@
+#![tactic(auto)]
+
 ghost use Rattle.std.specs.Prelude.{◌≡◌, ◌<◌, ◌≤◌, get_or};
 ghost use Rattle.value.specs.declared.Ternary.TheVariants.{V0};
 ghost use Rattle.symbol.specs.Match.{match_field, result_of};

@@ -1,3 +1,5 @@
+#![tactic(auto)]
+
 ghost use Rattle.std.specs.Prelude.{◌≡◌};
 ghost use Rattle.stored.specs.Stored.{level_byte, level_of, symbol_byte, second_byte, letter_of, symbol_of, output_byte, output_of, stores_level, stores_symbol, stores_output};
 
@@ -15,6 +17,7 @@ pub fn level_byte(l: Level) -> u8
     }
 }
 
+#[tactic(auto, unfolding(crate::specs::Stored::level_of))]
 pub fn level_of(b: u8) -> Level
     ensures { result ≡ level_of b }
 {
@@ -55,6 +58,7 @@ pub fn second_byte(s: Symbol) -> u8
     }
 }
 
+#[tactic(auto, unfolding(crate::specs::Stored::letter_of))]
 fn letter_of(b: u8) -> Symbol
     ensures { result ≡ letter_of b }
 {
@@ -69,6 +73,7 @@ fn letter_of(b: u8) -> Symbol
 }
 
 // The symbol that two stored bytes stand for.
+#[tactic(auto, unfolding(crate::specs::Stored::symbol_of))]
 pub fn symbol_of(b: u8, c: u8) -> Symbol
     ensures { result ≡ symbol_of b c }
 {
@@ -79,6 +84,7 @@ pub fn symbol_of(b: u8, c: u8) -> Symbol
 }
 
 // A byte is the one that stores its level.
+#[tactic(auto, unfolding(crate::specs::Stored::level_byte, crate::specs::Stored::level_of, crate::specs::Stored::stores_level))]
 pub fn stores_level(b: u8) -> bool
     ensures { result ≡ stores_level b }
 {
@@ -92,6 +98,7 @@ pub fn stores_level(b: u8) -> bool
     }
 }
 
+#[tactic(auto, unfolding(crate::specs::Stored::letter_of, crate::specs::Stored::second_byte, crate::specs::Stored::stores_level, crate::specs::Stored::stores_symbol, crate::specs::Stored::symbol_byte, crate::specs::Stored::symbol_of))]
 fn stores_letter(b: u8) -> bool
     ensures { result ≡ stores_symbol b 0 }
 {
@@ -106,6 +113,7 @@ fn stores_letter(b: u8) -> bool
 }
 
 // Two bytes are those that store their symbol.
+#[tactic(auto, unfolding(crate::specs::Stored::second_byte, crate::specs::Stored::stores_level, crate::specs::Stored::stores_symbol, crate::specs::Stored::symbol_byte, crate::specs::Stored::symbol_of))]
 pub fn stores_symbol(b: u8, c: u8) -> bool
     ensures { result ≡ stores_symbol b c }
 {
@@ -126,6 +134,7 @@ pub fn output_byte(o: Output) -> u8
     }
 }
 
+#[tactic(auto, unfolding(crate::specs::Stored::output_of))]
 pub fn output_of(b: u8) -> Output
     ensures { result ≡ output_of b }
 {
@@ -138,6 +147,7 @@ pub fn output_of(b: u8) -> Output
 }
 
 // A byte is the one that stores its output.
+#[tactic(auto, unfolding(crate::specs::Stored::output_byte, crate::specs::Stored::output_of, crate::specs::Stored::stores_output))]
 pub fn stores_output(b: u8) -> bool
     ensures { result ≡ stores_output b }
 {

@@ -1,10 +1,12 @@
+#![tactic(auto)]
+
 ghost use Rattle.std.specs.Prelude.{◌≡◌};
 ghost use Rattle.symbol.specs.Match.{match_level, match_edge, match_held, match_change, match_field, is_edge, result_of};
 
 use value::Ternary;
 
 // A level symbol: 0, 1, x, b, ?.
-#[derive(Drop)]
+#[derive(Clone, Copy)]
 pub enum Level {
     Zero,
     One,
@@ -14,7 +16,7 @@ pub enum Level {
 }
 
 // A table symbol as it is written: a level, a pair, or one of r f p n *.
-#[derive(Drop)]
+#[derive(Clone, Copy)]
 pub enum Symbol {
     Held(Level),
     Edge(Level, Level),
@@ -26,7 +28,7 @@ pub enum Symbol {
 }
 
 // A row's output: 0, 1, x, or - for the old output.
-#[derive(Drop)]
+#[derive(Clone, Copy)]
 pub enum Output {
     Out0,
     Out1,
@@ -35,7 +37,7 @@ pub enum Output {
 }
 
 // What matching receives: a symbol, and the input that is offered to it.
-#[derive(Drop)]
+#[derive(Clone, Copy)]
 pub struct Field {
     pub symbol: Symbol,
     pub before: Ternary,

@@ -1,3 +1,5 @@
+#![tactic(auto)]
+
 ghost use Rattle.std.specs.Prelude.{◌≡◌, ◌+◌, ◌-◌, ◌*◌, ◌<◌, length, get_or};
 ghost use Rattle.symbol.specs.Masks.{offers};
 ghost use Rattle.symbol.specs.declared.Symbol.TheVariants.{Held};

@@ -1,3 +1,5 @@
+#![tactic(auto)]
+
 // teller BOOK [NAME]: what a book holds, or the refusal of a damaged one.
 use book::Opened;
 use disk::Loaded;

@@ -1,3 +1,5 @@
+#![tactic(auto)]
+
 // Byte classes, blanks and comments, words and names of the text.
 ghost use Rattle.std.specs.Prelude.{◌≡◌, cond, eqb, drop};
 ghost use Rattle.text.specs.Bytes.{class_of, num_of, is_blank, starts, in_name, is_symbol, Ruled};
@@ -9,13 +11,13 @@ ghost use Rattle.text.specs.declared.Step.TheVariants.{Refused};
 
 // A reading step's answer: a number that says what was read (for a sign or a word where it starts) and the place behind it; or a
 // refusal's number and place.
-#[derive(Drop)]
+#[derive(Clone, Copy)]
 pub enum Step {
     At(usize, usize),
     Refused(u8, usize),
 }
 
-#[derive(Drop)]
+#[derive(Clone, Copy)]
 pub enum Close {
     After(usize),
     Never,
@@ -122,6 +124,7 @@ pub fn is_name(s: &[u8]) -> bool
 }
 
 // A name that is not too long.
+#[tactic(auto, unfolding(crate::specs::Words::name_fits))]
 pub fn name_fits(s: &[u8]) -> bool
     ensures { result ≡ name_fits s.now }
 {
@@ -282,6 +285,7 @@ pub fn fault_at(text: &[u8], at: usize) -> Step
 }
 
 // The byte c, behind blanks.
+#[tactic(auto, unfolding(crate::specs::Reader::mark))]
 pub fn read_mark(text: &[u8], at: usize, c: u8) -> Step
     ensures { mark c at (drop at text.now) ≡ meant text.now (λ a e. c) result }
 {
@@ -293,6 +297,7 @@ pub fn read_mark(text: &[u8], at: usize, c: u8) -> Step
 }
 
 // The byte c, as 1, or the byte d, as 0, behind blanks.
+#[tactic(auto, unfolding(crate::specs::Reader::either_mark))]
 pub fn read_either(text: &[u8], at: usize, c: u8, d: u8) -> Step
     ensures { either_mark c d at (drop at text.now) ≡ meant text.now (λ a e. eqb a 1) result }
 {
@@ -344,6 +349,7 @@ pub fn word_end(text: &[u8], at: usize) -> usize
 }
 
 // The word w, behind blanks.
+#[tactic(auto, unfolding(crate::specs::Reader::keyword, crate::specs::Reader::word))]
 pub fn read_keyword(text: &[u8], at: usize, w: &[u8]) -> Step
     ensures { keyword w.now at (drop at text.now) ≡ meant text.now (λ a e. w.now) result }
 {

@@ -1,7 +1,9 @@
+#![tactic(auto)]
+
 ghost use Rattle.std.specs.Prelude.{◌≡◌};
 ghost use Rattle.value.specs.Value.{rank_of, value_of, same_value, byte_of, read_byte};
 
-#[derive(Drop)]
+#[derive(Clone, Copy)]
 pub enum Ternary {
     V0,
     V1,
@@ -9,7 +11,7 @@ pub enum Ternary {
 }
 
 // What a text byte says: a value, or none.
-#[derive(Drop)]
+#[derive(Clone, Copy)]
 pub enum Byte {
     Value(Ternary),
     Other,
@@ -22,6 +24,7 @@ impl Ternary {
 
     pub const X: Ternary = Ternary::Vx;
 
+    #[tactic(auto, unfolding(crate::specs::Value::value_of))]
     pub fn from_rank(k: usize) -> Ternary
         ensures { result ≡ value_of k }
     {
@@ -32,6 +35,7 @@ impl Ternary {
         }
     }
 
+    #[tactic(auto, unfolding(crate::specs::Value::rank_of))]
     pub fn to_rank(self) -> usize
         ensures { result ≡ rank_of self }
     {
@@ -42,6 +46,7 @@ impl Ternary {
         }
     }
 
+    #[tactic(auto, unfolding(crate::specs::Value::read_byte))]
     pub fn from_byte(b: u8) -> Byte
         ensures { result ≡ read_byte b }
     {
@@ -53,6 +58,7 @@ impl Ternary {
         }
     }
 
+    #[tactic(auto, unfolding(crate::specs::Value::byte_of))]
     pub fn to_byte(self) -> u8
         ensures { result ≡ byte_of self }
     {
@@ -64,6 +70,7 @@ impl Ternary {
     }
 }
 
+#[tactic(auto, unfolding(crate::specs::Value::same_value))]
 pub fn same(a: Ternary, b: Ternary) -> bool
     ensures { result ≡ same_value a b }
 {

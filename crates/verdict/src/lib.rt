@@ -1,8 +1,10 @@
+#![tactic(auto)]
+
 use value::Ternary;
 
 // A disagreement of the orders `first, second, others rising` and `second, first, others rising`. `previous` is the previous vector
 // as a number in base 3, its digits ranks, input 1 weighing most; of the current vector only the two values that differ are held.
-#[derive(Drop)]
+#[derive(Clone, Copy)]
 pub struct Witness {
     pub first: u8,
     pub second: u8,
@@ -14,7 +16,7 @@ pub struct Witness {
     pub second_output: Ternary,
 }
 
-#[derive(Drop)]
+#[derive(Clone, Copy)]
 pub enum Finding {
     Independent,
     Dependent(Witness),

@@ -1,3 +1,5 @@
+#![tactic(auto)]
+
 ghost use Rattle.std.specs.Prelude.{◌≡◌, ◌≤◌, length, get_or};
 ghost use Rattle.base.specs.Limits.{input_limit, name_limit};
 ghost use Rattle.table.specs.Places.{inputs_at};

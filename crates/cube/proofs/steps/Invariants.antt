@@ -1,0 +1,16 @@
+use Prim.Native.Nat.{◌*◌, ◌-◌, ◌≤◌}
+use mathlib.Core.List.{[]}
+use mathlib.Core.Path.{refl, sym}
+use native.Mathlib.Nat.{add-zero}
+use native.Mathlib.Omega.{arith}
+use borrow.Author.Rules.{rules}
+use Rattle.exchange.proofs.Each.{Each, each_none, each_three, each_all}
+use Rattle.cube.proofs.Weights.{times_low}
+use Rattle.cube.proofs.Stepping.{Stepped, stepped_by, steps_by}
+use Rattle.cube.proofs.steps.Given as goal
+
+abbrev pub invariant-loop-a : goal.invariant-loop-a
+invariant-loop-a l = (l.a ≤ 3) × Each [] (Stepped l.s l.outs l.all l.n l.m l.i) 9 l.f (l.a * 3)
+
+abbrev pub decreases-loop-a : goal.decreases-loop-a
+decreases-loop-a l = 3 - l.a

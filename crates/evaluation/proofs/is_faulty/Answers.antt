@@ -1,0 +1,8 @@
+use native.Mathlib.Omega.{arith}
+use borrow.Author.Rules.{rules}
+use Rattle.evaluation.specs.Called.{faulty}
+use Rattle.evaluation.proofs.is_faulty.Goals as goal
+
+pub returns : goal.returns
+unfolding faulty
+returns c = rw (c.repeats.ensures, c.wide-x.ensures)

@@ -1,0 +1,6 @@
+use borrow.Author.Rules.{rules}
+use Rattle.planes.proofs.Planes.{level_told}
+use Rattle.exchange.proofs.level_at.Goals as goal
+
+pub returns : goal.returns
+returns c = record { told = level_told _ _ _ _ _ _ c.rows_by-set.ensures c.spread.ensures }

@@ -1,0 +1,15 @@
+use Rattle.std.proofs.Common.{◌+◌, ◌-◌}
+use mathlib.Core.Path.{◌≡◌, sym, ◌∙◌}
+use mathlib.Core.Logic.{⊎_elim}
+use native.Mathlib.Nat.{zero-add}
+use native.Mathlib.Omega.{arith}
+use lib.ListN.{length, drop}
+use Rattle.files.specs.Parts.{after_mark}
+use Rattle.files.proofs.Parts.{walk_stop, walk_end, walk_mark, walk_other}
+use Rattle.files.proofs.after.Given as goal
+
+abbrev pub invariant-loop-i : goal.invariant-loop-i
+invariant-loop-i l = after_mark l.mark l.k l.s ≡ l.i + after_mark l.mark l.left (drop l.i l.s)
+
+abbrev pub decreases-loop-i : goal.decreases-loop-i
+decreases-loop-i l = length l.s - l.i

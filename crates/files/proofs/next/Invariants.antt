@@ -1,0 +1,13 @@
+use Rattle.std.proofs.Common.{◌-◌}
+use mathlib.Core.Path.{◌≡◌, refl, sym, ◌∙◌}
+use native.Mathlib.Omega.{arith}
+use lib.ListN.{length}
+use Rattle.files.specs.Parts.{next_mark}
+use Rattle.files.proofs.Parts.{next_more, next_here, next-none}
+use Rattle.files.proofs.next.Given as goal
+
+abbrev pub invariant-loop-i : goal.invariant-loop-i
+invariant-loop-i l = next_mark l.mark l.s l.from ≡ next_mark l.mark l.s l.i
+
+abbrev pub decreases-loop-i : goal.decreases-loop-i
+decreases-loop-i l = length l.s - l.i

@@ -1,0 +1,31 @@
+use Prim.Native.Nat.{ℕ, ◌≤◌, ◌-◌}
+use mathlib.Core.Path.{◌≡◌, sym, ap, ◌∙◌}
+use mathlib.Core.Bool.{true, not}
+use native.Mathlib.Omega.{arith}
+use borrow.Author.Rules.{rules}
+use Rattle.base.specs.Search.{every}
+use Rattle.base.proofs.Search.{every-none, every_more, every-fails}
+use Rattle.table.specs.Area.{decode}
+use Rattle.table.specs.Table.{row_at}
+use Rattle.formed.specs.Tests.{contradict, row_agrees}
+use Rattle.formed.proofs.cells_agree.Goals as goal
+
+pub loop-i-init : goal.loop-i-init
+unfolding row_agrees
+loop-i-init c = (search rules, every-none _)
+
+pub cells_contradict-requires : goal.cells_contradict-requires
+unfolding row_agrees
+cells_contradict-requires c = (c.loop-i-test.true, c.requires.0, c.requires.1)
+
+pub returns-then-cells_contradict : goal.returns-then-cells_contradict
+unfolding row_agrees
+returns-then-cells_contradict c = sym (every-fails _ _ c.loop-i.i (omega arith) (ap not (sym c.cells_contradict.ensures ∙ c.if-cells_contradict.true)))
+
+pub loop-i-preserved : goal.loop-i-preserved
+unfolding row_agrees
+loop-i-preserved c = (omega arith, every_more _ _ c.loop-i.invariant.1 (ap not (sym c.cells_contradict.ensures ∙ c.if-cells_contradict.false)))
+
+pub returns : goal.returns
+unfolding row_agrees
+returns c = let e : c.loop-i.i ≡ c.args.j = omega arith in sym (rw e at c.loop-i.invariant.1)

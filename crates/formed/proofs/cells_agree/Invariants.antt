@@ -1,0 +1,17 @@
+use Prim.Native.Nat.{ℕ, ◌≤◌, ◌-◌}
+use mathlib.Core.Path.{◌≡◌, sym, ap, ◌∙◌}
+use mathlib.Core.Bool.{true, not}
+use native.Mathlib.Omega.{arith}
+use borrow.Author.Rules.{rules}
+use Rattle.base.specs.Search.{every}
+use Rattle.base.proofs.Search.{every-none, every_more, every-fails}
+use Rattle.table.specs.Area.{decode}
+use Rattle.table.specs.Table.{row_at}
+use Rattle.formed.specs.Tests.{contradict, row_agrees}
+use Rattle.formed.proofs.cells_agree.Given as goal
+
+abbrev pub invariant-loop-i : goal.invariant-loop-i
+invariant-loop-i l = (l.i ≤ l.j) × (every l.i (λ (m : ℕ). not (contradict (decode l.a).inputs (row_at (decode l.a) m) (row_at (decode l.a) l.j))) ≡ true)
+
+abbrev pub decreases-loop-i : goal.decreases-loop-i
+decreases-loop-i l = l.j - l.i

@@ -1,0 +1,29 @@
+use Prim.Native.Nat.{ℕ, ◌≤◌, ◌<◌, ◌-◌}
+use mathlib.Core.Path.{◌≡◌, sym, ap, ◌∙◌}
+use mathlib.Core.Bool.{true, false}
+use native.Mathlib.Omega.{arith}
+use borrow.Author.Rules.{rules}
+use Rattle.base.specs.Search.{every}
+use Rattle.base.proofs.Search.{every-none, every_more, every-fails}
+use Rattle.symbol.specs.Match.{meet}
+use Rattle.table.specs.Area.{decode}
+use Rattle.table.specs.Table.{row_at, symbol_at}
+use Rattle.formed.specs.Tests.{columns_meet}
+use Rattle.formed.proofs.Sets.{sets-apart, sets-share}
+use Rattle.formed.proofs.columns_meet.Goals as goal
+
+pub loop-k-init : goal.loop-k-init
+unfolding columns_meet
+loop-k-init c = (search rules, every-none _)
+
+pub returns-then-offers_in-eq0 : goal.returns-then-offers_in-eq0
+unfolding columns_meet
+returns-then-offers_in-eq0 c = sym (every-fails _ _ c.loop-k.k (omega arith) (sets-apart _ _ _ _ c.offers_in.ensures c.offers_in-in-loop-k.ensures c.if-offers_in-eq0.true))
+
+pub loop-k-preserved : goal.loop-k-preserved
+unfolding columns_meet
+loop-k-preserved c = (omega arith, every_more _ _ c.loop-k.invariant.1 (sets-share _ _ _ _ c.offers_in.ensures c.offers_in-in-loop-k.ensures c.if-offers_in-eq0.false))
+
+pub returns : goal.returns
+unfolding columns_meet
+returns c = let e : c.loop-k.k ≡ (decode c.args.a.now).inputs = omega arith in sym (rw e at c.loop-k.invariant.1)

@@ -1,0 +1,24 @@
+use Prim.Native.Nat.{ℕ, ◌≤◌, ◌-◌}
+use mathlib.Core.Path.{◌≡◌, sym, ◌∙◌}
+use mathlib.Core.Bool.{true, false, and-false}
+use mathlib.Core.List.{List}
+use native.Mathlib.Omega.{arith}
+use lib.ListN.{length, replicate, length-set, length-replicate}
+use borrow.Author.Rules.{rules}
+use borrow.Author.Tests.{not-true, not-false}
+use Rattle.base.specs.Limits.{row_limit}
+use Rattle.base.specs.Search.{every}
+use Rattle.base.proofs.Search.{every-none, every_more, every-fails}
+use Rattle.table.specs.Area.{decode}
+use Rattle.table.specs.Table.{row_at}
+use Rattle.formed.specs.Tests.{row_valid, rows_valid, row_agrees, rows_agree}
+use Rattle.formed.specs.Cells.{cell_count, RowCells}
+use Rattle.formed.proofs.Sets.{rows_none, rows_more}
+use Rattle.formed.proofs.rows_fit.Given as goal
+
+abbrev pub invariant-loop-j : goal.invariant-loop-j
+invariant-loop-j l = (l.j ≤ l.m) × (length l.s ≡ row_limit) × RowCells (decode l.a) l.j l.s
+    × (every l.j (λ (i : ℕ). row_valid (decode l.a).inputs (decode l.a).sequential (row_at (decode l.a) i)) ≡ true) × (every l.j (row_agrees (decode l.a)) ≡ true)
+
+abbrev pub decreases-loop-j : goal.decreases-loop-j
+decreases-loop-j l = l.m - l.j

@@ -1,0 +1,18 @@
+use Prim.Native.Nat.{ℕ, ◌<◌, ◌-◌}
+use mathlib.Core.Path.{◌≡◌}
+use mathlib.Core.List.{[]}
+use native.Mathlib.Omega.{arith}
+use lib.ListN.{get_or}
+use Rattle.base.specs.Limits.{input_limit}
+use Rattle.base.specs.Listed.{listed}
+use Rattle.base.proofs.Listed.{Filled, filled_none, filled_more, filled-all}
+use Rattle.table.specs.Table.{Table}
+use Rattle.pair.specs.Search.{Given}
+use Rattle.judge.specs.Search.{yes_in}
+use Rattle.judge.proofs.square_row.Given as goal
+
+abbrev pub invariant-loop-j : goal.invariant-loop-j
+invariant-loop-j l = (t : Table) → Given t l.s l.all l.outs l.n l.m → ((k : ℕ) → k < l.i → get_or l.done k [] ≡ listed (yes_in t k) input_limit) → Filled (yes_in t l.i) input_limit l.row l.j
+
+abbrev pub decreases-loop-j : goal.decreases-loop-j
+decreases-loop-j l = input_limit - l.j

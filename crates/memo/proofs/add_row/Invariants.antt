@@ -1,0 +1,14 @@
+use Prim.Native.Nat.{ℕ, ◌+◌, ◌-◌, ◌*◌, ◌/◌, ◌%◌, ◌^◌, ◌≤◌}
+use mathlib.Core.Path.{◌≡◌, refl, sym}
+use native.Mathlib.Nat.{div-one}
+use native.Mathlib.Omega.{arith}
+use lib.ListN.{get_or}
+use Rattle.base.proofs.Patched.{Patched, patched-none}
+use Rattle.memo.proofs.Offers.{next_bit, set_more}
+use Rattle.memo.proofs.add_row.Given as goal
+
+abbrev pub invariant-loop-c : goal.invariant-loop-c
+invariant-loop-c l = (l.c ≤ 12) × (l.e ≡ l.bits / 2 ^ l.c) × Patched (λ (q : ℕ). get_or l.initial.s q 0 * 2 + l.bits / 2 ^ q % 2) 0 l.initial.s l.s l.c
+
+abbrev pub decreases-loop-c : goal.decreases-loop-c
+decreases-loop-c l = 12 - l.c

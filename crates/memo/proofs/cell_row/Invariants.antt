@@ -1,0 +1,11 @@
+use native.Mathlib.Omega.{arith}
+use borrow.Author.Rules.{rules}
+use Rattle.table.specs.Area.{decode}
+use Rattle.memo.proofs.Offers.{From, from-none, from-room, from_more, from_all}
+use Rattle.memo.proofs.cell_row.Given as goal
+
+abbrev pub invariant-loop-i : goal.invariant-loop-i
+invariant-loop-i l = From (decode l.a) l.k l.i l.s
+
+abbrev pub decreases-loop-i : goal.decreases-loop-i
+decreases-loop-i l = l.i

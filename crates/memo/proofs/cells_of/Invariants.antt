@@ -1,0 +1,15 @@
+use Prim.Native.Nat.{suc, ◌-◌}
+use mathlib.Core.Path.{◌∙◌}
+use native.Mathlib.Omega.{arith}
+use borrow.Author.Rules.{rules}
+use Rattle.base.specs.Limits.{input_limit}
+use Rattle.base.proofs.Listed.{Filled, filled_none, filled_more, filled-all}
+use Rattle.table.specs.Area.{decode}
+use Rattle.memo.specs.Rows.{cell_row, cells}
+use Rattle.memo.proofs.cells_of.Given as goal
+
+abbrev pub invariant-loop-k : goal.invariant-loop-k
+invariant-loop-k l = Filled (cell_row (decode l.a)) (suc input_limit) l.s l.k
+
+abbrev pub decreases-loop-k : goal.decreases-loop-k
+decreases-loop-k l = suc input_limit - l.k

@@ -1,0 +1,11 @@
+use mathlib.Core.Path.{sym, ap, ◌∙◌}
+use borrow.Author.Rules.{rules}
+use Rattle.symbol.specs.Masks.{offers}
+use Rattle.memo.proofs.Offers.{column_symbol, column_state}
+use Rattle.memo.proofs.offers_at.Goals as goal
+
+pub returns-then-k-inputs : goal.returns-then-k-inputs
+returns-then-k-inputs c = let h = rw c.inputs.ensures at c.if-k-inputs.true in c.wide.ensures ∙ c.offers_in.ensures ∙ ap offers (sym (column_symbol _ _ _ h))
+
+pub returns : goal.returns
+returns c = let h = rw c.inputs.ensures at c.if-k-inputs.false in c.wide-2.ensures ∙ c.state_offers.ensures ∙ ap offers (sym (column_state _ _ _ h))

@@ -1,0 +1,26 @@
+use Rattle.value.specs.Value.{same_value, rank_of, value_of}
+use Rattle.symbol.specs.Match.{offered, match_held, match_change, match_edge, match_level}
+use Rattle.symbol.specs.Masks.{offers, mask_of, mask_from}
+use Rattle.stored.specs.Stored.{level_of}
+use borrow.Author.Tests.{ne_eqb}
+use Rattle.offers.proofs.level_offers.Goals as goal
+
+pub returns-in-48 : goal.returns-in-48
+unfolding same_value rank_of value_of offered match_held match_change match_edge match_level offers mask_of mask_from level_of
+returns-in-48 c = rw c.in-48.is
+
+pub returns-in-49 : goal.returns-in-49
+unfolding same_value rank_of value_of offered match_held match_change match_edge match_level offers mask_of mask_from level_of
+returns-in-49 c = rw c.in-49.is
+
+pub returns-in-120 : goal.returns-in-120
+unfolding same_value rank_of value_of offered match_held match_change match_edge match_level offers mask_of mask_from level_of
+returns-in-120 c = rw c.in-120.is
+
+pub returns-in-98 : goal.returns-in-98
+unfolding same_value rank_of value_of offered match_held match_change match_edge match_level offers mask_of mask_from level_of
+returns-in-98 c = rw c.in-98.is
+
+pub returns-in_default : goal.returns-in_default
+unfolding same_value rank_of value_of offered match_held match_change match_edge match_level offers mask_of mask_from level_of
+returns-in_default c = rw (ne_eqb _ _ c.in-48.rest.0.0.0.1, ne_eqb _ _ c.in-48.rest.0.0.1, ne_eqb _ _ c.in-48.rest.0.1, ne_eqb _ _ c.in-48.rest.1)

@@ -1,0 +1,6 @@
+use borrow.Author.Rules.{rules}
+use Rattle.planes.proofs.Planes.{closed_by}
+use Rattle.planes.proofs.closed.Goals as goal
+
+pub returns : goal.returns
+returns c = closed_by _ _ _ _ _ _ c.spread-p.ensures

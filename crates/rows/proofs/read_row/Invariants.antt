@@ -1,0 +1,18 @@
+use Rattle.rows.proofs.Columns.{column-refused, column-more, columns_read}
+use Rattle.grammar.proofs.Behind.{behind, behind_none}
+use Rattle.grammar.specs.Rows.{columns}
+use Rattle.table.specs.Places.{inputs_at}
+use Rattle.base.specs.Limits.{input_limit}
+use lib.ListN.{length, get_or, take, drop, length-set}
+use native.Mathlib.Nat.{sub-zero}
+use Prim.Native.Nat.{◌-◌, ◌≤◌}
+use native.Mathlib.Omega.{arith}
+use mathlib.Core.Path.{◌≡◌, refl, sym, ◌∙◌}
+use borrow.Author.Rules.{rules}
+use Rattle.rows.proofs.read_row.Given as goal
+
+abbrev pub invariant-loop-column : goal.invariant-loop-column
+invariant-loop-column l = (columns l.n l.sequential l.at (drop l.at l.text) ≡ behind (take l.column l.symbols) (columns (l.n - l.column) l.edge l.i (drop l.i l.text))) × (l.column ≤ l.n) × (length l.symbols ≡ input_limit)
+
+abbrev pub decreases-loop-column : goal.decreases-loop-column
+decreases-loop-column l = l.n - l.column

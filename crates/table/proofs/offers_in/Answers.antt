@@ -1,0 +1,47 @@
+use Rattle.table.proofs.Encoding.{decode_count, decode_inputs, decode_no_symbol, decode_no_column, decode_symbol}
+use Rattle.table.specs.Places.{count_at, inputs_at}
+use Rattle.stored.specs.Stored.{level_of}
+use Rattle.table.specs.Area.{symbol_in}
+use native.Mathlib.Omega.{arith}
+use borrow.Author.Rules.{rules}
+use Rattle.table.proofs.offers_in.Goals as goal
+
+pub returns-then-rows-i : goal.returns-then-rows-i
+unfolding symbol_in level_of
+returns-then-rows-i c = rw (decode_no_symbol c.args.a.now c.args.i c.args.k (omega (arith, c.rows.ensures))) c.level_offers.ensures
+
+pub returns-then-inputs-k : goal.returns-then-inputs-k
+unfolding symbol_in level_of
+returns-then-inputs-k c = rw (decode_no_column c.args.a.now c.args.i c.args.k (omega (arith, c.rows.ensures)) (omega (arith, c.inputs.ensures))) c.level_offers-then-inputs-k.ensures
+
+pub overflow_mul-at : goal.overflow_mul-at
+unfolding symbol_in level_of
+overflow_mul-at c = omega (arith, c.shared_slice_known-1.given count_at, c.shared_slice_known-1.given inputs_at, decode_count c.args.a.now, decode_inputs c.args.a.now, c.rows.ensures, c.inputs.ensures)
+
+pub overflow_add-at : goal.overflow_add-at
+unfolding symbol_in level_of
+overflow_add-at c = omega (arith, c.shared_slice_known-1.given count_at, c.shared_slice_known-1.given inputs_at, decode_count c.args.a.now, decode_inputs c.args.a.now, c.rows.ensures, c.inputs.ensures)
+
+pub overflow_mul-k : goal.overflow_mul-k
+unfolding symbol_in level_of
+overflow_mul-k c = omega (arith, c.shared_slice_known-1.given count_at, c.shared_slice_known-1.given inputs_at, decode_count c.args.a.now, decode_inputs c.args.a.now, c.rows.ensures, c.inputs.ensures)
+
+pub overflow_add-at-2 : goal.overflow_add-at-2
+unfolding symbol_in level_of
+overflow_add-at-2 c = omega (arith, c.shared_slice_known-1.given count_at, c.shared_slice_known-1.given inputs_at, decode_count c.args.a.now, decode_inputs c.args.a.now, c.rows.ensures, c.inputs.ensures)
+
+pub overflow_mul-k-2 : goal.overflow_mul-k-2
+unfolding symbol_in level_of
+overflow_mul-k-2 c = omega (arith, c.shared_slice_known-1.given count_at, c.shared_slice_known-1.given inputs_at, decode_count c.args.a.now, decode_inputs c.args.a.now, c.rows.ensures, c.inputs.ensures)
+
+pub overflow_add-k : goal.overflow_add-k
+unfolding symbol_in level_of
+overflow_add-k c = omega (arith, c.shared_slice_known-1.given count_at, c.shared_slice_known-1.given inputs_at, decode_count c.args.a.now, decode_inputs c.args.a.now, c.rows.ensures, c.inputs.ensures)
+
+pub overflow_add-at-3 : goal.overflow_add-at-3
+unfolding symbol_in level_of
+overflow_add-at-3 c = omega (arith, c.shared_slice_known-1.given count_at, c.shared_slice_known-1.given inputs_at, decode_count c.args.a.now, decode_inputs c.args.a.now, c.rows.ensures, c.inputs.ensures)
+
+pub returns : goal.returns
+unfolding symbol_in level_of
+returns c = rw (decode_symbol c.args.a.now c.args.i c.args.k (omega (arith, c.rows.ensures)) (omega (arith, c.inputs.ensures)), ← c.byte_at.ensures, ← c.byte_at-2.ensures) c.offers_of.ensures

@@ -1,0 +1,14 @@
+use mathlib.Core.Path.{◌≡◌}
+use Prim.Native.Nat.{◌+◌, ◌-◌}
+use native.Mathlib.Omega.{arith}
+use lib.ListN.{length, drop}
+use borrow.Author.Tests.{ne_eqb}
+use Rattle.text.specs.Blanks.{to_line}
+use Rattle.text.proofs.Blanklaws.{line-cons, line-nil}
+use Rattle.text.proofs.to_line.Given as goal
+
+abbrev pub invariant-loop-i : goal.invariant-loop-i
+invariant-loop-i l = (to_line (drop l.at l.text) ≡ l.m + to_line (drop l.i l.text)) × (l.at + l.m ≡ l.i)
+
+abbrev pub decreases-loop-i : goal.decreases-loop-i
+decreases-loop-i l = length l.text - l.i
