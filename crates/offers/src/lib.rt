@@ -10,6 +10,7 @@ ghost use Rattle.stored.specs.Stored.{level_of, letter_of, symbol_of};
 use symbol::Symbol;
 
 // What the level of a byte may be offered, if it matches: bit 0 for 0, bit 1 for 1, bit 2 for x.
+#[tactic(auto, unfolding(stored::specs::Stored::level_of, symbol::specs::Masks::mask_from, symbol::specs::Masks::mask_of, symbol::specs::Match::match_change, symbol::specs::Match::match_edge, symbol::specs::Match::match_held, symbol::specs::Match::match_level, symbol::specs::Match::offered, symbol::specs::Masks::offers, value::specs::Value::rank_of, value::specs::Value::same_value, value::specs::Value::value_of))]
 pub fn level_offers(b: u8) -> u16
     ensures { result ≡ offers (Held (level_of b)) }
 {
@@ -23,6 +24,7 @@ pub fn level_offers(b: u8) -> u16
 }
 
 // The same for a pair: from bit 3 on the changes from 0, from 1 and from x, three bits each.
+#[tactic(auto, unfolding(stored::specs::Stored::level_of))]
 fn pair_offers(b: u8, c: u8) -> u16
     ensures { result ≡ offers (Edge (level_of b) (level_of c)) }
 {
@@ -40,6 +42,7 @@ fn pair_offers(b: u8, c: u8) -> u16
 }
 
 // The same for a letter.
+#[tactic(auto, unfolding(stored::specs::Stored::letter_of, symbol::specs::Masks::mask_from, symbol::specs::Masks::mask_of, symbol::specs::Match::match_change, symbol::specs::Match::match_edge, symbol::specs::Match::match_held, symbol::specs::Match::match_level, symbol::specs::Match::offered, symbol::specs::Masks::offers, value::specs::Value::rank_of, value::specs::Value::same_value, value::specs::Value::value_of))]
 fn letter_offers(b: u8) -> u16
     ensures { result ≡ offers (letter_of b) }
 {
@@ -54,6 +57,7 @@ fn letter_offers(b: u8) -> u16
 }
 
 // The same for the symbol that two stored bytes stand for.
+#[tactic(auto, unfolding(stored::specs::Stored::symbol_of))]
 pub fn offers_of(b: u8, c: u8) -> u16
     ensures { result ≡ offers (symbol_of b c) }
 {

@@ -6,6 +6,7 @@ use lib.ListN.{length, drop}
 use Rattle.files.specs.Parts.{after_mark}
 use Rattle.files.proofs.Parts.{walk_stop, walk_end, walk_mark, walk_other}
 use Rattle.files.proofs.after.Goals as goal
+use Rattle.files.proofs.after.Goals.{then-s-i, else-s-i}
 
 -- `files::after` meets its contract: the answer is the answer from place i on, with `left` marks still to pass. Assumes nothing.
 use Prim.Native.Nat.{◌+◌, ◌-◌}
@@ -17,12 +18,10 @@ pub returns-then-left-eq0 : goal.returns-then-left-eq0
 returns-then-left-eq0 c = rw (c.loop-i.invariant, c.if-left-eq0.true, walk_stop)
 
 pub loop-i-preserved : goal.loop-i-preserved
-loop-i-preserved c = let l = c.loop-i in
-    let t = c.loop-i-test.true in
-    ⊎_elim
-    (λ w. rw w.1 (l.invariant ∙ walk_mark _ _ _ _ t c.if-left-eq0.false w.0.taken))
-    (λ w. rw w.1 (l.invariant ∙ walk_other _ _ _ _ t c.if-left-eq0.false w.0.left))
-    c.if-s-i.branch
+loop-i-preserved c =
+    elim c.if-s-i.branch [
+      then-s-i w ↦ rw w.left-is (c.loop-i.invariant ∙ walk_mark _ _ _ _ c.loop-i-test.true c.if-left-eq0.false w.if-s-i.true) |
+      else-s-i w ↦ rw w.left-is (c.loop-i.invariant ∙ walk_other _ _ _ _ c.loop-i-test.true c.if-left-eq0.false w.if-s-i.false) ]
 
 pub returns : goal.returns
 returns c = rw c.loop-i.invariant (sym (walk_end _ _ _ _ c.loop-i-test.false))

@@ -25,7 +25,3 @@ returns-in-110 c = rw c.in-110.is
 pub returns-in-42 : goal.returns-in-42
 unfolding same_value rank_of value_of offered match_held match_change match_edge match_level offers mask_of mask_from letter_of
 returns-in-42 c = rw c.in-42.is
-
-pub returns-in_default : goal.returns-in_default
-unfolding same_value rank_of value_of offered match_held match_change match_edge match_level offers mask_of mask_from letter_of
-returns-in_default c = rw (ne_eqb _ _ c.in-114.rest.0.0.0.0.1, ne_eqb _ _ c.in-114.rest.0.0.0.1, ne_eqb _ _ c.in-114.rest.0.0.1, ne_eqb _ _ c.in-114.rest.0.1, ne_eqb _ _ c.in-114.rest.1, ← c.level_offers.ensures)

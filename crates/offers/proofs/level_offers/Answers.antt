@@ -20,7 +20,3 @@ returns-in-120 c = rw c.in-120.is
 pub returns-in-98 : goal.returns-in-98
 unfolding same_value rank_of value_of offered match_held match_change match_edge match_level offers mask_of mask_from level_of
 returns-in-98 c = rw c.in-98.is
-
-pub returns-in_default : goal.returns-in_default
-unfolding same_value rank_of value_of offered match_held match_change match_edge match_level offers mask_of mask_from level_of
-returns-in_default c = rw (ne_eqb _ _ c.in-48.rest.0.0.0.1, ne_eqb _ _ c.in-48.rest.0.0.1, ne_eqb _ _ c.in-48.rest.0.1, ne_eqb _ _ c.in-48.rest.1)

@@ -47,4 +47,4 @@ returns-in-98 c = rw (c.in-98.is, c.level_offers-w.ensures) (from_binary (level_
 
 pub returns-in_default : goal.returns-in_default
 unfolding level_of
-returns-in_default c = from_rest _ _ _ c.level_offers-w.ensures c.in-48.rest.0.0.0.1 c.in-48.rest.0.0.1 c.in-48.rest.0.1 c.in-48.rest.1
+returns-in_default c = from_rest _ _ _ c.level_offers-w.ensures c.in_default.in_default-own.rest.0.0.0.1 c.in_default.in_default-own.rest.0.0.1 c.in_default.in_default-own.rest.0.1 c.in_default.in_default-own.rest.1
