@@ -97,7 +97,7 @@ fn write_line(
     rows: usize,
     finding: Finding,
 )
-    requires* { do ⌜ at + size ≤ (← ⟦book.len()⟧) ⌝ }
+    requires { at + size ≤ length book.old }
     ensures { book.new ≡ with_bytes book.old at size (listed (λ k. get_or (entry at (draft record { name = name.entry.now; inputs = inputs; rows = rows; finding = finding }) ++ (LF ∷ [])) k 0) size) }
 {
     let mut k: usize = 0;

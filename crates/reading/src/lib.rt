@@ -82,6 +82,6 @@ pub fn read(text: &[u8], start: usize, area: &mut [u8]) -> Reading
     let Step::At(_, e) = s else {
         return refusal(s);
     };
-    bytes::copy(&draft, area);
+    area.copy_from_slice(&draft);
     Reading::Table(e)
 }
