@@ -13,41 +13,37 @@ use Rattle.files.specs.Files.{LF}
 use Rattle.entry.specs.Entry.{entry}
 use Rattle.entry.specs.Draft.{draft}
 use Rattle.listing.specs.Next.{stands_in}
-use Rattle.listing.proofs.stands.Statement.{statement}
-use Rattle.listing.proofs.stands.Tie as tie
+use Rattle.listing.proofs.stands.Goals as goal
 
-abbrev invariant-loop : tie.invariant-loop
-invariant-loop book at name inputs rows finding size k₀ k =
-    (k ≤ size) × (every k (λ (m : ℕ). eqb (get_or book (at + m) 0) (get_or (entry at (draft (record { name = name; inputs = inputs; rows = rows; finding = finding })) ++ (LF ∷ [])) m 0)) ≡ true)
-
-abbrev decreases-loop : tie.decreases-loop
-decreases-loop book at name inputs rows finding size k₀ k = size - k
-
-pub stands_spec : {M : Type 1} → statement M
+pub loop-k-init : goal.loop-k-init
 unfolding stands_in
-stands_spec =
-    tie.close
-    (tie.spec
-    invariant-loop
-    decreases-loop
-    (λ
+loop-k-init = λ
     c. (
       omega
           arith,
       every-none
           _,
-    ))
-    (λ
+    )
+
+pub byte_behind-requires : goal.byte_behind-requires
+unfolding stands_in
+byte_behind-requires = λ
     c
     κs.
     search
-    rules)
-    (λ
+    rules
+
+pub line_byte-requires : goal.line_byte-requires
+unfolding stands_in
+line_byte-requires = λ
     c
     κs.
     search
-    rules)
-    (λ
+    rules
+
+pub returns-then-byte_behind-line_byte : goal.returns-then-byte_behind-line_byte
+unfolding stands_in
+returns-then-byte_behind-line_byte = λ
     c.
     sym
     (every-fails
@@ -67,16 +63,25 @@ stands_spec =
     q
     ∙
     sym
-    c.before.line-byte.ensures)))))
-    (λ
+    c.before.line-byte.ensures))))
+
+pub overflow_add-k : goal.overflow_add-k
+unfolding stands_in
+overflow_add-k = λ
     c.
     omega
-    arith)
-    (λ
+    arith
+
+pub loop-k-smaller : goal.loop-k-smaller
+unfolding stands_in
+loop-k-smaller = λ
     c.
     omega
-    arith)
-    (λ
+    arith
+
+pub loop-k-preserved : goal.loop-k-preserved
+unfolding stands_in
+loop-k-preserved = λ
     c. (
       omega
           arith,
@@ -93,8 +98,11 @@ stands_spec =
           c.if1.left
           ∙
           c.before.line-byte.ensures)),
-    ))
-    (λ
+    )
+
+pub returns : goal.returns
+unfolding stands_in
+returns = λ
     c.
     let
     e
@@ -110,4 +118,4 @@ stands_spec =
     (rw
     e
     at
-    c.before.loop.inv.1)))
+    c.before.loop.inv.1)
