@@ -17,105 +17,16 @@ use Rattle.listing.proofs.stands.Goals as goal
 
 pub loop-k-init : goal.loop-k-init
 unfolding stands_in
-loop-k-init = λ
-    c. (
-      omega
-          arith,
-      every-none
-          _,
-    )
-
-pub byte_behind-requires : goal.byte_behind-requires
-unfolding stands_in
-byte_behind-requires = λ
-    c
-    κs.
-    search
-    rules
-
-pub line_byte-requires : goal.line_byte-requires
-unfolding stands_in
-line_byte-requires = λ
-    c
-    κs.
-    search
-    rules
+loop-k-init c = (omega arith, every-none _)
 
 pub returns-then-byte_behind-line_byte : goal.returns-then-byte_behind-line_byte
 unfolding stands_in
-returns-then-byte_behind-line_byte = λ
-    c.
-    sym
-    (every-fails
-    _
-    _
-    c.before.before.before.before.loop.k
-    (omega
-    arith)
-    (ne_eqb
-    _
-    _
-    (λ
-    q.
-    c.if1.taken
-    (c.before.before.byte-behind.ensures
-    ∙
-    q
-    ∙
-    sym
-    c.before.line-byte.ensures))))
-
-pub overflow_add-k : goal.overflow_add-k
-unfolding stands_in
-overflow_add-k = λ
-    c.
-    omega
-    arith
-
-pub loop-k-smaller : goal.loop-k-smaller
-unfolding stands_in
-loop-k-smaller = λ
-    c.
-    omega
-    arith
+returns-then-byte_behind-line_byte c = sym (every-fails _ _ c.loop-k.k (omega arith) (ne_eqb _ _ (λ q. c.if-byte_behind-line_byte.taken (c.byte_behind.ensures ∙ q ∙ sym c.line_byte.ensures))))
 
 pub loop-k-preserved : goal.loop-k-preserved
 unfolding stands_in
-loop-k-preserved = λ
-    c. (
-      omega
-          arith,
-      every_more
-          _
-          _
-          c.before.before.before.before.loop.inv.1
-          (eq-eqb
-          _
-          _
-          (sym
-          c.before.before.byte-behind.ensures
-          ∙
-          c.if1.left
-          ∙
-          c.before.line-byte.ensures)),
-    )
+loop-k-preserved c = (omega arith, every_more _ _ c.loop-k.inv.1 (eq-eqb _ _ (sym c.byte_behind.ensures ∙ c.if-byte_behind-line_byte.left ∙ c.line_byte.ensures)))
 
 pub returns : goal.returns
 unfolding stands_in
-returns = λ
-    c.
-    let
-    e
-    :
-    c.before.loop.k
-    ≡
-    c.before.before.before.before.args.size
-    =
-    omega
-    arith
-    in
-    sym
-    (rw
-    e
-    at
-    c.before.loop.inv.1)
+returns c = let e : c.loop-k.k ≡ c.args.size = omega arith in sym (rw e at c.loop-k.inv.1)
