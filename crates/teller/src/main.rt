@@ -64,6 +64,7 @@ fn print_entry(to: &impl Print, line: &[u8], k: usize, name: &[u8]) {
     }
 }
 
+#[tactic(auto, using(files::proofs::Parts::next_ge))]
 fn print_entries(to: &impl Print, book: &[u8], good: usize, name: &[u8]) {
     let mut at: usize = 0;
     let mut k: usize = 1;
