@@ -1,13 +1,13 @@
 -- The outcomes of an append at a place. Assumes nothing.
-use mathlib.Core.Path.{◌≡◌, refl, sym, ap, ap₂, ◌∙◌}
+use mathlib.Core.Path.{◌≡◌, refl, ap, ◌∙◌}
 use mathlib.Core.Logic.{◌≢◌}
 use mathlib.Core.Bool.{Bool, true, false, cond}
 use mathlib.Core.List.{List, [], ◌∷◌, ◌++◌}
 use Prim.Native.Nat.{ℕ, suc, ◌+◌, ◌-◌, ◌≤◌, ◌<◌, max}
 use native.Mathlib.Omega.{arith}
 use borrow.Author.Tests.{le-leb, lt-leb, ltb-true, ltb-false}
-use lib.Dec.{ltb, leb}
-use lib.ListN.{length, get_or, take, drop, length-append}
+use lib.Dec.{ltb}
+use lib.ListN.{length, get_or, length-append}
 use Rattle.base.specs.Limits.{book_limit}
 use Rattle.base.specs.Listed.{listed}
 use Rattle.base.proofs.Listed.{listed-is}
@@ -17,9 +17,8 @@ use Rattle.entry.specs.Entry.{entry}
 use Rattle.handed.specs.Handed.{Handed, verdict_of, fits_layout}
 use Rattle.entry.specs.Draft.{draft}
 use Rattle.entry.proofs.Sizes.{unfit-of, fit_of, drafted-of, size_of}
-use Rattle.book.specs.declared.Appended.{Appended}
 use Rattle.book.specs.declared.Appended.TheVariants.{Stated, Refused}
-use Rattle.book.specs.Book.{limit_of, Outcome, outcome, with_bytes, line_of, appended_at}
+use Rattle.book.specs.Book.{limit_of, outcome, with_bytes, line_of, appended_at}
 
 pub limit_le : (book : List ℕ) → (limit_of book ≤ length book) × (limit_of book ≤ book_limit)
 limit_le book = go (ltb (length book) book_limit) refl

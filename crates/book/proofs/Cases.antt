@@ -15,7 +15,6 @@ use Rattle.orders.specs.Vectors.{vector_of}
 use Rattle.verdict.specs.Numbers.{number_from}
 use Rattle.verdict.specs.Meaning.{shown, meant}
 use Rattle.verdict.specs.declared.Witness.{Witness}
-use Rattle.verdict.specs.declared.Finding.{Finding}
 use Rattle.verdict.specs.declared.Finding.TheVariants.{Independent, Dependent}
 use Rattle.files.specs.Parts.{after_mark, next_mark, part_at}
 use Rattle.files.specs.Files.{LF}

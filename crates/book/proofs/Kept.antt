@@ -1,12 +1,11 @@
 -- A file that holds verdicts, and what the calls answer to it. Assumes nothing.
 use mathlib.Core.Path.{◌≡◌, refl, sym, ap, ap₂, ◌∙◌}
-use mathlib.Core.Logic.{◌≢◌}
 use mathlib.Core.Bool.{Bool, true, false, cond}
-use mathlib.Core.List.{List, [], ◌∷◌, ◌++◌, append_assoc, append-nil}
+use mathlib.Core.List.{List, [], ◌∷◌, ◌++◌, append_assoc}
 use Prim.Native.Nat.{ℕ, zero, suc, ◌+◌, ◌-◌, ◌≤◌, ◌<◌, max}
 use native.Mathlib.Omega.{arith}
-use borrow.Author.Tests.{le-ltb, ne_eqb, leb-true, ltb-true, ltb-false}
-use lib.Dec.{eqb, ltb, leb}
+use borrow.Author.Tests.{le-ltb, ne_eqb, leb-true}
+use lib.Dec.{ltb, leb}
 use lib.ListN.{length, get_or, take, drop, length-append}
 use lib.Seq.{take-append_seam, drop-append_seam, take-append-le}
 use Rattle.base.specs.Limits.{book_limit}
@@ -18,18 +17,15 @@ use Rattle.entry.specs.Entry.{entry}
 use Rattle.handed.specs.Handed.{Handed, verdict_of, fits_layout}
 use Rattle.handed.proofs.Fit.{parts_of}
 use Rattle.entry.proofs.Clean.{entry_line}
-use Rattle.line.specs.Told.{told_by, is_entry}
+use Rattle.line.specs.Told.{told_by}
 use Rattle.line.specs.declared.Told.{Told}
 use Rattle.line.proofs.Round.{told_entry, entry_is, name_of_entry, name_in_entry}
 use Rattle.book.specs.declared.Good.{Good}
-use Rattle.book.specs.declared.Opened.{Opened}
 use Rattle.book.specs.declared.Opened.TheVariants as open-book
-use Rattle.book.specs.declared.Appended.{Appended}
 use Rattle.book.specs.declared.Appended.TheVariants as append
 use Rattle.book.specs.declared.Entry.{Entry}
-use Rattle.book.specs.declared.Fetched.{Fetched}
 use Rattle.book.specs.declared.Fetched.TheVariants as fetch
-use Rattle.book.specs.Book.{limit_of, opened_from, opened_file, opened, on_opened, Outcome, line_of, written, with_bytes, refusal, appended_at, appended, entry_at, entry_of, fetched}
+use Rattle.book.specs.Book.{limit_of, opened_from, opened_file, opened, Outcome, line_of, written, with_bytes, refusal, appended_at, appended, entry_at, entry_of, fetched}
 use Rattle.book.specs.Runs.{lines_from, book_of, AllFit, none_left, one_fits, held_in}
 use Rattle.book.proofs.Appending.{limit_le}
 

@@ -1,17 +1,15 @@
 -- Opening, line by line. Assumes nothing.
-use mathlib.Core.Path.{◌≡◌, refl, sym, ap, ◌∙◌}
-use mathlib.Core.Logic.{◌≢◌}
-use mathlib.Core.Bool.{Bool, true, false, cond}
-use mathlib.Core.List.{List, [], ◌∷◌, ◌++◌}
+use mathlib.Core.Path.{◌≡◌, refl, ap, ◌∙◌}
+use mathlib.Core.Bool.{true, false, cond}
+use mathlib.Core.List.{List}
 use Prim.Native.Nat.{ℕ, suc, ◌+◌, ◌-◌, ◌≤◌, ◌<◌}
 use native.Mathlib.Omega.{arith}
-use lib.ListN.{length, get_or, take, drop, length-drop}
+use lib.ListN.{length, drop, length-drop}
 use lib.Seq.{length-take-le}
 use Rattle.files.specs.Parts.{split, between, next_mark}
 use Rattle.files.specs.Files.{LF}
 use Rattle.files.proofs.Parts.{next_ge, split-next, split-last}
 use Rattle.line.specs.Told.{is_entry}
-use Rattle.book.specs.declared.Good.{Good}
 use Rattle.book.specs.declared.Opened.{Opened}
 use Rattle.book.specs.declared.Opened.TheVariants.{Book, Refused}
 use Rattle.book.specs.Book.{opened_from, opened_file}

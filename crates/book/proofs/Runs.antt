@@ -1,6 +1,6 @@
 -- Demand 3: after any run of appends, refused ones too, reopenings and cuts, opening and fetch answer exactly the verdicts whose
 -- last byte was stored, in order and unchanged; and each cut costs at most the entry being written. Assumes nothing.
-use mathlib.Core.Path.{◌≡◌, refl, sym, ap, ◌∙◌}
+use mathlib.Core.Path.{◌≡◌, ◌∙◌}
 use mathlib.Core.List.Sublistᴰ
 use mathlib.Core.List.{List, [], ◌∷◌, ◌++◌, append-nil, Sublistᴰ}
 use Prim.Native.Nat.{ℕ, suc, ◌+◌, ◌-◌, ◌≤◌, ◌<◌}
@@ -18,7 +18,7 @@ use Rattle.book.specs.declared.Fetched.TheVariants as fetch
 use Rattle.book.specs.Book.{opened, appended, fetched}
 use Rattle.book.specs.Runs.{book_of, AllFit, none_left, Event, append, append_refused, cut_before, cut_after, reopening, Run, begin, appends, refuses, cuts_before, cuts_after, reopens, stored, asked, cuts, held_in}
 use Rattle.book.proofs.Once.{refused_same}
-use Rattle.book.proofs.Kept.{Kept, kept_book, place-good, found, kept-opened, kept-fetched, kept_whole, kept_more, kept-cut}
+use Rattle.book.proofs.Kept.{Kept, kept_book, place-good, kept-opened, kept-fetched, kept_whole, kept_more, kept-cut}
 
 -- what an append that is not refused, a refused one, and a cut leave
 module _ (f : List ℕ) (hs : List Handed) (k : Kept f hs) (rest : List ℕ) (h : Handed) where

@@ -1,21 +1,20 @@
 -- What fits by the test is what fits in document 01's words; the longest entry has 93 bytes. Assumes nothing.
-use mathlib.Core.Path.{◌≡◌, refl, sym, ap, ◌∙◌}
+use mathlib.Core.Path.{◌≡◌, sym, ap, ◌∙◌}
 use mathlib.Core.Bool.{true}
 use mathlib.Core.List.{List, [], ◌∷◌, ◌++◌}
-use Prim.Native.Nat.{ℕ, suc, ◌+◌, ◌*◌, ◌≤◌}
+use Prim.Native.Nat.{ℕ, ◌+◌, ◌*◌, ◌≤◌}
 use native.Mathlib.Omega.{arith}
 use borrow.Author.Tests.{lt-ltb}
 use lib.ListN.{length, length-append}
 use Rattle.base.specs.Limits.{input_limit}
 use Rattle.verdict.specs.Verdict as words
-use Rattle.verdict.specs.Meaning.{meant, Disagrees, Fits, fits_independent, fits_dependent, SoundFinding}
+use Rattle.verdict.specs.Meaning.{meant, Fits, fits_independent, fits_dependent, SoundFinding}
 use Rattle.verdict.specs.declared.Finding.{Finding}
-use Rattle.verdict.proofs.Meaning.{sound_fits, fits_meant, meant_once}
-use Rattle.orders.specs.Pairs.{others, pair_order}
+use Rattle.verdict.proofs.Meaning.{sound_fits, fits_meant}
 use Rattle.base.proofs.Listed.{listed-length}
 use Rattle.files.specs.Files.{LF}
 use Rattle.files.specs.Parts.{join}
-use Rattle.entry.specs.Entry.{space, decimal, finding_fields, witness_fields, fields, trailer, entry, Fitting}
+use Rattle.entry.specs.Entry.{space, decimal, finding_fields, entry, Fitting}
 use Rattle.handed.specs.Handed.{Handed, verdict_of, fits_layout}
 use Rattle.entry.specs.Draft.{order_at}
 use Rattle.entry.proofs.Fields.{entry_length, witness_length, decimal_few}

@@ -1,24 +1,22 @@
 -- What the reading of a line finds. Assumes nothing.
-use mathlib.Core.Path.{◌≡◌, refl, sym, ap, ap₂, ◌∙◌}
-use mathlib.Core.Logic.{◌≢◌, ⊎_elim}
-use mathlib.Core.Bool.{Bool, true, false, cond, ◌&&◌}
+use mathlib.Core.Path.{◌≡◌, refl, sym, ap, ◌∙◌}
+use mathlib.Core.Logic.{◌≢◌}
+use mathlib.Core.Bool.{true, false, cond, ◌&&◌}
 use mathlib.Core.List.{List, [], ◌∷◌, ◌++◌, map}
-use Prim.Native.Nat.{ℕ, zero, suc, ◌+◌, ◌-◌, ◌*◌, ◌^◌, ◌≤◌, ◌<◌}
-use native.Mathlib.Nat.{pow-le-pow_right, min-eq_left}
+use Prim.Native.Nat.{ℕ, suc, ◌+◌, ◌-◌, ◌*◌, ◌^◌, ◌≤◌, ◌<◌}
+use native.Mathlib.Nat.{pow-le-pow_right}
 use native.Mathlib.Numerals.{add-one}
 use native.Mathlib.Omega.{arith}
 use borrow.Author.Tests.{eq-eqb, ne_eqb}
 use lib.Dec.{eqb, lit<}
-use lib.ListN.{length, get_or, take, length-map, length-take, length-append, get_or-append}
-use lib.Seq.{take-suc, take_all, take-take, length-take-le, ext_get_or}
+use lib.ListN.{length, get_or, take, length-map, get_or-append}
+use lib.Seq.{take-suc, take_all, length-take-le}
 use Rattle.base.specs.Limits.{input_limit}
 use Rattle.base.specs.Search.{every}
-use Rattle.base.proofs.Search.{every-fails, every_more}
-use Rattle.base.proofs.Bools.{both, and, clash}
+use Rattle.base.proofs.Search.{every-fails}
 use Rattle.value.specs.Value.{rank_of}
 use Rattle.value.specs.declared.Ternary.{Ternary}
 use Rattle.verdict.specs.Numbers.{number_from}
-use Rattle.orders.proofs.Candidates.{rank_low}
 use Rattle.verdict.proofs.Numbers.{number_snoc, number_below}
 use Rattle.files.specs.Files.{LF}
 use Rattle.files.proofs.Parts.{part_short}

@@ -1,13 +1,13 @@
 -- A verdict that fits, written and read again, is the same; and a line is an entry just where it is some fitting verdict's. Assumes nothing.
 use mathlib.Core.Path.{◌≡◌, refl, sym, ap, ap₂, ◌∙◌}
-use mathlib.Core.Logic.{◌≢◌, ◌↔◌, ⊎_elim}
-use mathlib.Core.Bool.{Bool, true, false, cond, ◌&&◌}
+use mathlib.Core.Logic.{◌↔◌, ⊎_elim}
+use mathlib.Core.Bool.{true}
 use mathlib.Core.List.{List, [], ◌∷◌, ◌++◌, map, append_assoc}
-use Prim.Native.Nat.{ℕ, zero, suc, ◌+◌, ◌-◌, ◌*◌, ◌/◌, ◌%◌, ◌≤◌, ◌<◌}
+use Prim.Native.Nat.{ℕ, zero, suc, ◌-◌, ◌≤◌, ◌<◌}
 use Prim.Native.Char.{code}
 use native.Mathlib.Omega.{arith}
-use borrow.Author.Tests.{eq-eqb, ne_eqb, lt-ltb, le-ltb, eqb-true}
-use lib.Dec.{eqb, ltb}
+use borrow.Author.Tests.{eq-eqb, lt-ltb, le-ltb, eqb-true}
+use lib.Dec.{eqb}
 use lib.ListN.{length, get_or, take, length-map}
 use lib.Seq.{take_all, take-append_seam, ext_get_or}
 use Rattle.base.specs.Limits.{input_limit}
@@ -17,19 +17,17 @@ use Rattle.base.proofs.Bools.{both, and, lt_or_ge}
 use Rattle.value.specs.Value.{byte_of, read_byte}
 use Rattle.value.specs.declared.Ternary.{Ternary}
 use Rattle.value.specs.declared.Ternary.TheVariants.{V0, V1, Vx}
-use Rattle.text.specs.Words.{name_fits}
-use Rattle.orders.specs.Vectors.{at, vector_of}
-use Rattle.orders.specs.Pairs.{pair_order}
+use Rattle.orders.specs.Vectors.{at}
 use Rattle.verdict.specs.Numbers.{number_from}
 use Rattle.verdict.specs.Verdict as words
-use Rattle.verdict.specs.Meaning.{before, now, shown, meant, Sound, SoundFinding}
+use Rattle.verdict.specs.Meaning.{before, now, shown, meant, Sound}
 use Rattle.verdict.specs.declared.Witness.{Witness}
 use Rattle.verdict.specs.declared.Finding.{Finding}
 use Rattle.verdict.specs.declared.Finding.TheVariants.{Independent, Dependent}
 use Rattle.orders.proofs.Candidates.{length_vector_of}
 use Rattle.verdict.proofs.Numbers.{number_vector}
 use Rattle.verdict.proofs.Meaning.{now_length, now_first, now_second}
-use Rattle.files.specs.Parts.{join, part_at}
+use Rattle.files.specs.Parts.{join}
 use Rattle.files.proofs.Parts.{part_join}
 use Rattle.entry.specs.Entry.{space, digit_of, decimal, witness_fields, finding_fields, fields, trailer, entry, Fitting}
 use Rattle.handed.specs.Handed.{Handed, verdict_of, fits_layout}

@@ -7,7 +7,6 @@ use native.Mathlib.Nat.{pow-suc, zero-add, add-zero}
 use native.Mathlib.Decide.{ℕ_discrete}
 use native.Mathlib.Omega.{arith}
 use lib.ListN.{length, length-append}
-use lib.Dec.{eqb}
 use borrow.Author.Tests.{eq-eqb, eqb-true}
 use mathlib.Core.Bool.{true}
 use Rattle.value.specs.Value.{rank_of, value_of, same_value}

@@ -2,13 +2,12 @@
 use mathlib.Core.Path.{◌≡◌, refl, sym, ap₂, ◌∙◌}
 use mathlib.Core.Logic.{◌≢◌, ◌↔◌, ◌⊎◌, inl, inr}
 use mathlib.Core.List.{List, [], ◌∷◌}
-use Prim.Native.Nat.{ℕ, zero, suc, ◌+◌, ◌≤◌, ◌<◌}
+use Prim.Native.Nat.{ℕ, zero, suc, ◌≤◌, ◌<◌}
 use native.Mathlib.Decide.{ℕ_discrete, dec_lt, dec_le}
 use native.Mathlib.Omega.{arith}
-use lib.ListN.{length}
 use Rattle.value.specs.declared.Ternary.{Ternary}
 use Rattle.orders.specs.Vectors.{at, put, Vector}
-use Rattle.orders.specs.Order.{Step, Laws, eval_order, hit, count, Full, Family, Independent}
+use Rattle.orders.specs.Order.{Step, Laws, eval_order, count, Family, Independent}
 use Rattle.orders.specs.Pairs.{others, pair_order, OnlyTwo, PairAgrees, AllPairs, Commutes, Joined, same, swap, skip, then}
 use Rattle.orders.proofs.Places.{at_out, at_other, at_step, put_at, put_both, at_cases, vector_put, same_size}
 use Rattle.orders.proofs.Counts.{hit_self, joined-of-count, out-others, full-pair, full_counts}

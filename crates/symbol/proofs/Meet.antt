@@ -1,10 +1,9 @@
 -- Two symbols meet exactly where some level, or some change, matches both. Assumes nothing.
-use Prim.Native.Nat.{ℕ, ◌+◌, ◌-◌, ◌*◌, ◌/◌, ◌%◌, ◌<◌}
-use mathlib.Core.Path.{◌≡◌, refl, sym, ap, ◌∙◌}
+use Prim.Native.Nat.{ℕ, ◌-◌, ◌/◌, ◌%◌, ◌<◌}
+use mathlib.Core.Path.{◌≡◌, refl, sym, ◌∙◌}
 use mathlib.Core.Bool.{Bool, true, false, ◌&&◌, cond}
 use native.Mathlib.Omega.{arith}
 use lib.Dec.{ltb}
-use Rattle.base.specs.Search.{some}
 use Rattle.base.proofs.Search.{some_at, some_is}
 use Rattle.base.proofs.Bools.{both, and, clash}
 use Rattle.value.specs.declared.Ternary.{Ternary}

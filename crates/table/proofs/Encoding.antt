@@ -4,22 +4,20 @@ use mathlib.Core.Path.{◌≡◌, refl, sym, ap, ◌∙◌}
 use mathlib.Core.Bool.{Bool, true, false, cond}
 use mathlib.Core.List.{List}
 use native.Mathlib.Omega.{arith}
-use lib.Dec.{eqb, ltb}
+use lib.Dec.{eqb}
 use lib.ListN.{length, get_or, take, drop, length-take, length-drop, get_or-eq_default}
 use lib.Seq.{ext_get_or, get_or-take, get_or-drop}
-use borrow.Author.Tests.{lt-ltb, le-ltb, eq-eqb, ne_eqb, eqb-true}
-use Rattle.base.specs.Search.{every}
+use borrow.Author.Tests.{lt-ltb, le-ltb, eq-eqb, eqb-true}
 use Rattle.base.proofs.Search.{every_at, every_of}
 use Rattle.base.specs.Listed.{listed}
 use Rattle.base.proofs.Listed.{listed-length, listed_at, listed-past, listed-is}
 use Rattle.value.specs.declared.Ternary.{Ternary}
 use Rattle.value.specs.declared.Ternary.TheVariants.{V0, V1, Vx}
 use Rattle.value.specs.Value.{byte_of, read_byte}
-use Rattle.symbol.specs.declared.Symbol.{Symbol}
-use Rattle.stored.specs.Stored.{level_byte, level_of, symbol_byte, second_byte, symbol_of, output_byte, output_of}
+use Rattle.stored.specs.Stored.{level_byte, level_of, symbol_byte, output_byte, output_of}
 use Rattle.stored.proofs.Stores.{level_of_byte, output_of_byte, symbol_of_bytes}
 use Rattle.table.specs.Places.{name_at, kind_at, inputs_at, start_at, count_at, rows_at, state_at, output_at, row_size, area_size, row_place}
-use Rattle.table.specs.Table.{Row, Table, Bounded, Shaped, row_at, symbol_at, no_row, any_symbol}
+use Rattle.table.specs.Table.{Table, Bounded, Shaped, row_at, symbol_at, no_row, any_symbol}
 use Rattle.table.specs.Area.{kind_byte, symbol_part, row_byte, rows_byte, area_byte, encode, symbol_in, row_in, or_x, decode, canonical}
 
 -- ---- what is read out of any area

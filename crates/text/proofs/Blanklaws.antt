@@ -1,14 +1,14 @@
 -- Blanks and comments at a place of a text. Assumes nothing.
 use mathlib.Core.Path.{◌≡◌, refl, sym, subst, ◌∙◌}
-use mathlib.Core.Bool.{Bool, true, false, not, cond, ◌&&◌, and-false, false≢true, and-eq-true_iff}
+use mathlib.Core.Bool.{Bool, true, false, cond, ◌&&◌, false≢true, and-eq-true_iff}
 use mathlib.Core.Option.{Option, none, some}
 use mathlib.Core.List.{List, [], ◌∷◌}
 use Prim.Native.Nat.{ℕ, zero, suc, pred, ◌+◌, ◌≤◌, ◌<◌}
 use native.Mathlib.Omega.{arith}
 use native.Mathlib.Numerals.{add-one}
 use native.Mathlib.Nat.{zero-add, add-zero}
-use lib.Dec.{T, eqb, eqb→eq, eqb-suc-zero}
-use lib.ListN.{length, get_or, take, drop, length-drop, drop_of_length-le}
+use lib.Dec.{eqb, eqb-suc-zero}
+use lib.ListN.{length, get_or, drop, length-drop, drop_of_length-le}
 use borrow.Author.Tests.{eqb-true, ne_eqb}
 use lib.Seq.{drop-cons, drop-drop}
 use Rattle.text.specs.Bytes.{is_blank, is}

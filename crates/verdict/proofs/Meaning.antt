@@ -1,14 +1,12 @@
 -- The code's findings and document 01's: those that fit the book's layout are the same, one to one. Assumes nothing.
 use mathlib.Core.Path.{◌≡◌, refl, sym, ap, ap₂, ◌∙◌}
-use mathlib.Core.Logic.{◌≢◌, ◌⊎◌, inl, inr, ⊎_elim}
-use mathlib.Core.List.{List, [], ◌∷◌}
-use Prim.Native.Nat.{ℕ, zero, suc, ◌+◌, ◌≤◌, ◌<◌, ◌^◌}
+use mathlib.Core.Logic.{◌≢◌}
+use mathlib.Core.List.{List}
+use Prim.Native.Nat.{ℕ}
 use native.Mathlib.Decide.{ℕ_discrete}
 use native.Mathlib.Omega.{arith}
 use lib.ListN.{length}
-use lib.Seq.{ext_get_or}
 use Rattle.value.specs.declared.Ternary.{Ternary}
-use Rattle.value.specs.declared.Ternary.TheVariants.{V0}
 use Rattle.orders.specs.Vectors.{at, put, vector_of}
 use Rattle.orders.specs.Pairs.{pair_order}
 use Rattle.verdict.specs.Numbers.{number_from}

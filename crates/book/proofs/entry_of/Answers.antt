@@ -1,4 +1,3 @@
-use borrow.Author.Rules.{rules}
 use Rattle.files.specs.Files.{LF}
 use Rattle.files.specs.Parts.{part_at}
 use Rattle.files.proofs.Parts.{part-order}
@@ -6,8 +5,6 @@ use Rattle.book.specs.Book.{entry_of}
 use Rattle.book.proofs.entry_of.Goals as goal
 
 -- `book::entry_of` meets its contract. Assumes nothing.
-use Prim.Native.Nat.{◌-◌}
-
 
 pub returns : goal.returns
 unfolding entry_of part_at

@@ -1,17 +1,15 @@
 use mathlib.Core.Path.{◌≡◌, refl}
 use mathlib.Core.List.{[], ◌∷◌, ◌++◌}
 use native.Mathlib.Omega.{arith}
-use borrow.Author.Rules.{rules}
-use lib.ListN.{length, get_or}
+use lib.ListN.{get_or}
 use Rattle.files.specs.Files.{LF}
-use Rattle.base.proofs.Patched.{Patched, patched-none, patched-more}
+use Rattle.base.proofs.Patched.{patched-none, patched-more}
 use Rattle.entry.specs.Entry.{entry}
 use Rattle.entry.specs.Draft.{draft}
 use Rattle.book.proofs.Writing.{patched_bytes}
 use Rattle.book.proofs.write_line.Goals as goal
 
 -- `book::write_line` meets its contract: k bytes of the line stand in the book. Assumes nothing.
-use Prim.Native.Nat.{◌+◌, ◌-◌, ◌≤◌}
 
 pub loop-k-init : goal.loop-k-init
 loop-k-init c = (omega arith, refl, patched-none _ _ _)

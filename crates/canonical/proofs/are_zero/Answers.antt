@@ -1,13 +1,11 @@
-use Prim.Native.Nat.{ℕ, suc, ◌+◌, ◌-◌, ◌≤◌}
+use Prim.Native.Nat.{ℕ, suc, ◌+◌, ◌-◌}
 use mathlib.Core.Path.{◌≡◌, sym, ◌∙◌}
 use native.Mathlib.Omega.{arith}
 use lib.Dec.{eqb}
 use lib.ListN.{length, get_or, get_or-eq_default}
-use borrow.Author.Rules.{rules}
 use borrow.Author.Tests.{eq-eqb}
 use Rattle.base.specs.Search.{every}
 use Rattle.base.proofs.Search.{every-none}
-use Rattle.canonical.specs.Parts.{zero_from}
 use Rattle.canonical.proofs.Parts.{every_rest}
 use Rattle.canonical.proofs.are_zero.Goals as goal
 

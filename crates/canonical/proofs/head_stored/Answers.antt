@@ -2,14 +2,12 @@ use mathlib.Core.Bool.{true}
 use mathlib.Core.Path.{◌≡◌, sym, ap, ◌∙◌}
 use native.Mathlib.Omega.{arith}
 use lib.ListN.{length, get_or}
-use borrow.Author.Rules.{rules}
 use borrow.Author.Tests.{eq-eqb, ne_eqb, not-true, not-false}
 use Rattle.base.specs.Search.{every}
 use Rattle.base.proofs.Search.{every-fails}
-use Rattle.value.specs.Value.{byte_of}
 use Rattle.table.specs.Places.{kind_at, rows_at}
 use Rattle.table.specs.Area.{kind_byte, decode}
-use Rattle.canonical.specs.Parts.{as_encoded, zero_from}
+use Rattle.canonical.specs.Parts.{as_encoded}
 use Rattle.canonical.proofs.Parts.{fails_with, length-place, kind-place, start-place, head-zero, head-is}
 use Rattle.canonical.proofs.head_stored.Goals as goal
 

@@ -1,18 +1,15 @@
-use mathlib.Core.Path.{◌≡◌, sym, ap, ◌∙◌}
+use mathlib.Core.Path.{sym, ap, ◌∙◌}
 use mathlib.Core.List.{[], ◌∷◌, ◌++◌}
 use native.Mathlib.Omega.{arith}
-use borrow.Author.Rules.{rules}
-use lib.ListN.{get_or, drop}
+use lib.ListN.{get_or}
 use Rattle.files.specs.Files.{LF}
-use Rattle.files.specs.Parts.{join}
 use Rattle.files.proofs.Parts.{byte-in, byte-mark, byte_more, byte-rest}
-use Rattle.entry.specs.Entry.{space, fields, trailer, entry}
+use Rattle.entry.specs.Entry.{space, fields, trailer}
 use Rattle.entry.specs.Draft.{draft}
 use Rattle.entry.proofs.Fields.{findings_few, line_parts}
 use Rattle.entry.proofs.line_byte.Goals as goal
 
 -- `entry::line_byte` meets its contract: byte k of the line is byte i of what stands from field m on. Assumes nothing.
-use Prim.Native.Nat.{◌+◌, ◌-◌}
 
 pub overflow_add-count : goal.overflow_add-count
 overflow_add-count c = omega (arith, c.finding_count-count.ensures, findings_few c.args.inputs c.args.finding)

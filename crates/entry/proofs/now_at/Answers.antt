@@ -1,10 +1,8 @@
 use mathlib.Core.Path.{sym, ◌∙◌}
-use borrow.Author.Rules.{rules}
 use Rattle.entry.proofs.Bytes.{now_past, now-at-second, now-at-first, now-at-other}
 use Rattle.entry.proofs.now_at.Goals as goal
 
 -- `entry::now_at` meets its contract. Assumes nothing.
-use Prim.Native.Nat.{◌-◌}
 
 pub returns-then-n-k : goal.returns-then-n-k
 returns-then-n-k c = now_past _ c.args.w _ c.if-n-k.true

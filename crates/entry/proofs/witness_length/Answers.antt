@@ -4,7 +4,6 @@ use Rattle.entry.proofs.Fields.{length-1, length-2, length-4, length-6, empty_pa
 use Rattle.entry.proofs.witness_length.Goals as goal
 
 -- `entry::witness_length` meets its contract. Assumes nothing.
-use Prim.Native.Nat.{◌-◌}
 
 pub returns-in-0 : goal.returns-in-0
 returns-in-0 c = rw c.in-0.is

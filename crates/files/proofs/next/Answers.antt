@@ -1,12 +1,8 @@
-use mathlib.Core.Path.{◌≡◌, refl, sym, ◌∙◌}
-use native.Mathlib.Omega.{arith}
-use lib.ListN.{length}
-use Rattle.files.specs.Parts.{next_mark}
+use mathlib.Core.Path.{refl, sym, ◌∙◌}
 use Rattle.files.proofs.Parts.{next_more, next_here, next-none}
 use Rattle.files.proofs.next.Goals as goal
 
 -- `files::next` meets its contract: the answer is the answer from place i on. Assumes nothing.
-use Prim.Native.Nat.{◌-◌}
 
 pub loop-i-init : goal.loop-i-init
 loop-i-init c = refl

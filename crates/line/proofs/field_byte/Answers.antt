@@ -1,12 +1,10 @@
 use mathlib.Core.Path.{sym}
 use native.Mathlib.Omega.{arith}
-use borrow.Author.Rules.{rules}
 use Rattle.entry.specs.Entry.{space}
 use Rattle.files.proofs.Parts.{part-order, part-byte, part-past}
 use Rattle.line.proofs.field_byte.Goals as goal
 
 -- `line::field_byte` meets its contract. Assumes nothing.
-use Prim.Native.Nat.{◌-◌}
 
 pub overflow_sub-e : goal.overflow_sub-e
 overflow_sub-e c = (part-order space _ c.args.line.now _ _ c.after-a.ensures c.next-e.ensures).0

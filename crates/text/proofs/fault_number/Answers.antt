@@ -1,10 +1,8 @@
 use mathlib.Core.Path.{sym, ◌∙◌}
-use Prim.Native.Nat.{◌-◌}
 use lib.ListN.{drop, length-drop}
 use Rattle.text.specs.Places.{closing}
 use Rattle.text.proofs.Blanklaws.{two_long, endless-yes, endless-no}
 use native.Mathlib.Omega.{arith}
-use borrow.Author.Rules.{rules}
 use Rattle.text.proofs.fault_number.Goals as goal
 
 pub overflow_add-at : goal.overflow_add-at

@@ -1,10 +1,9 @@
 use mathlib.Core.Path.{sym, ap, ◌∙◌}
 use Rattle.text.specs.Places.{closing}
-use Prim.Native.Nat.{◌+◌, ◌-◌}
+use Prim.Native.Nat.{◌+◌}
 use lib.ListN.{drop, length-drop}
 use Rattle.text.proofs.Blanklaws.{gap-cons, gap-nil, line_le, close_some, two_long}
 use native.Mathlib.Omega.{arith}
-use borrow.Author.Rules.{rules}
 use Rattle.text.proofs.gap_at.Goals as goal
 
 pub returns-then-text-at : goal.returns-then-text-at

@@ -1,5 +1,4 @@
 use native.Mathlib.Omega.{arith}
-use borrow.Author.Rules.{rules}
 use borrow.Author.Tests.{not-true, not-false, le-leb, lt-leb}
 use Rattle.text.proofs.Classes.{classes_ruled}
 use Rattle.text.proofs.Wordlaws.{name_cons, name_nil, word-all}

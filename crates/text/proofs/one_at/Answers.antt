@@ -1,6 +1,4 @@
-use borrow.Author.Rules.{rules}
 use Rattle.text.proofs.Blanklaws.{one-cons, one-nil}
-use borrow.Author.Rules.{rules}
 use Rattle.text.proofs.one_at.Goals as goal
 
 pub returns-then-text-at : goal.returns-then-text-at

@@ -1,6 +1,4 @@
-use mathlib.Core.Path.{◌≡◌, sym}
-use lib.ListN.{length}
-use borrow.Author.Rules.{rules}
+use mathlib.Core.Path.{sym}
 use Rattle.text.proofs.Wordlaws.{part_none, part-past, part-long}
 use Rattle.text.proofs.part.Goals as goal
 

@@ -1,6 +1,5 @@
 use mathlib.Core.Path.{refl, sym, ◌∙◌}
 use native.Mathlib.Omega.{arith}
-use borrow.Author.Rules.{rules}
 use Rattle.text.proofs.Blanklaws.{one-room, blank-on}
 use Rattle.text.proofs.past_one.Goals as goal
 

@@ -1,6 +1,4 @@
-use mathlib.Core.Path.{◌≡◌}
 use native.Mathlib.Omega.{arith}
-use borrow.Author.Rules.{rules}
 use Rattle.text.specs.Reader.{either_mark, ◌>>=◌}
 use Rattle.text.proofs.Blanklaws.{one-room}
 use Rattle.text.proofs.Readlaws.{either-at}

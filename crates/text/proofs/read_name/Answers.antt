@@ -1,5 +1,4 @@
 use native.Mathlib.Omega.{arith}
-use borrow.Author.Rules.{rules}
 use borrow.Author.Tests.{not-true, not-false}
 use Rattle.text.proofs.Classes.{classes_ruled}
 use Rattle.text.proofs.Wordlaws.{word_in, name-none, name-unlike, name-keyword, name-there, name-long}

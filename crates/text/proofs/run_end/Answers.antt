@@ -1,13 +1,9 @@
-use Prim.Native.Nat.{◌+◌, ◌-◌}
 use native.Mathlib.Omega.{arith}
-use lib.ListN.{length, drop}
-use borrow.Author.Rules.{rules}
 use borrow.Author.Tests.{not-true, not-false}
-use Rattle.text.proofs.Wordlaws.{run_length, run-cons, run-nil, run_end}
+use Rattle.text.proofs.Wordlaws.{run-cons, run-nil, run_end}
 use Rattle.text.proofs.run_end.Goals as goal
-
 -- The run that starts at `at` ends where the one that starts at `i` does.
-use mathlib.Core.Path.{◌≡◌, refl, sym, ◌∙◌}
+use mathlib.Core.Path.{refl, sym, ◌∙◌}
 
 pub loop-i-init : goal.loop-i-init
 loop-i-init c = refl

@@ -1,13 +1,8 @@
-use Prim.Native.Nat.{◌-◌}
-use native.Mathlib.Omega.{arith}
-use lib.ListN.{length, drop}
 use borrow.Author.Tests.{eq-eqb, ne_eqb}
-use Rattle.text.specs.Words.{same}
 use Rattle.text.proofs.Wordlaws.{same-cons, same-long, same_end}
 use Rattle.text.proofs.same.Goals as goal
-
 -- The lists are the same where what is left of them is.
-use mathlib.Core.Path.{◌≡◌, refl}
+use mathlib.Core.Path.{refl}
 
 pub loop-i-init : goal.loop-i-init
 loop-i-init c = refl

@@ -1,9 +1,8 @@
-use mathlib.Core.Path.{sym, ◌∙◌}
+use mathlib.Core.Path.{◌∙◌}
 use lib.Dec.{eqb, ltb}
 use lib.ListN.{get_or}
 use borrow.Author.Tests.{ltb-true, eqb-false, not-true}
 use Rattle.base.proofs.Bools.{both}
-use borrow.Author.Rules.{rules}
 use Rattle.text.proofs.Classes.{classes_ruled}
 use Rattle.text.proofs.Blanklaws.{skip-nil, plain-stop}
 use Rattle.text.proofs.skip_from.Goals as goal

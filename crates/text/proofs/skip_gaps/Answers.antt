@@ -1,10 +1,7 @@
-use mathlib.Core.Path.{◌≡◌, refl, sym, ◌∙◌}
-use Prim.Native.Nat.{◌-◌}
-use lib.ListN.{length, drop, length-drop}
-use Rattle.text.specs.Reader.{skip}
+use mathlib.Core.Path.{refl, sym, ◌∙◌}
+use lib.ListN.{drop, length-drop}
 use Rattle.text.proofs.Blanklaws.{gap_le, skip_stop, skip-on, skip-nil}
 use native.Mathlib.Omega.{arith}
-use borrow.Author.Rules.{rules}
 use Rattle.text.proofs.skip_gaps.Goals as goal
 
 pub loop-i-init : goal.loop-i-init

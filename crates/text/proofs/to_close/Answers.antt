@@ -1,10 +1,9 @@
-use mathlib.Core.Path.{◌≡◌, sym}
-use Prim.Native.Nat.{◌+◌, ◌-◌}
+use mathlib.Core.Path.{sym}
+use Prim.Native.Nat.{◌+◌}
 use native.Mathlib.Omega.{arith}
-use lib.ListN.{length, drop}
-use borrow.Author.Rules.{rules}
+use lib.ListN.{drop}
 use Rattle.text.specs.Blanks.{to_close}
-use Rattle.text.proofs.Blanklaws.{adds, adds_zero, adds_more, close-cons, close-nil}
+use Rattle.text.proofs.Blanklaws.{adds_zero, adds_more, close-cons, close-nil}
 use Rattle.text.proofs.to_close.Goals as goal
 
 pub loop-i-init : goal.loop-i-init

@@ -1,9 +1,5 @@
-use mathlib.Core.Path.{◌≡◌}
-use Prim.Native.Nat.{◌+◌, ◌-◌}
 use native.Mathlib.Omega.{arith}
-use lib.ListN.{length, drop}
 use borrow.Author.Tests.{ne_eqb}
-use Rattle.text.specs.Blanks.{to_line}
 use Rattle.text.proofs.Blanklaws.{line-cons, line-nil}
 use Rattle.text.proofs.to_line.Goals as goal
 

@@ -1,6 +1,4 @@
-use mathlib.Core.Path.{◌≡◌}
 use native.Mathlib.Omega.{arith}
-use borrow.Author.Rules.{rules}
 use Rattle.text.proofs.Blanklaws.{two_at, one-room}
 use Rattle.text.proofs.two_at.Goals as goal
 
