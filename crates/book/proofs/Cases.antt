@@ -66,13 +66,13 @@ unfolding keep keep_witness entry meant shown vector_of value_of ℕ_discrete
 keep_long s = refl
 
 module _ (book : List ℕ) (stated : ℕ) (large : 65536 ≤ length book) where
-  pub last-place : (appended_at book stated 65500 keep).answer ≡ append.Stated (max stated 65536)
+  pub last_place : (appended_at book stated 65500 keep).answer ≡ append.Stated (max stated 65536)
   unfolding appended_at
-  last-place = rw (keep_fits, keep_long 65500, le-ltb (length book) 65536 large)
+  last_place = rw (keep_fits, keep_long 65500, le-ltb (length book) 65536 large)
 
-  pub one-past : appended_at book stated 65501 keep ≡ refusal book 15 65501
+  pub one_past : appended_at book stated 65501 keep ≡ refusal book 15 65501
   unfolding appended_at
-  one-past = rw (keep_fits, keep_long 65501, le-ltb (length book) 65536 large)
+  one_past = rw (keep_fits, keep_long 65501, le-ltb (length book) 65536 large)
 
 -- ---- an entry of 93 bytes
 

@@ -5,7 +5,7 @@ use lib.Dec.{eqb}
 use lib.ListN.{length, get_or, get_or-eq_default}
 use borrow.Author.Tests.{eq-eqb}
 use Rattle.base.specs.Search.{every}
-use Rattle.base.proofs.Search.{every-none}
+use Rattle.base.proofs.Search.{every_none}
 use Rattle.canonical.proofs.Parts.{every_rest}
 use Rattle.canonical.proofs.are_zero.Goals as goal
 
@@ -13,7 +13,7 @@ pub loop-p-init : goal.loop-p-init
 loop-p-init c =
     let from = c.args.from in
     let e : from - from ≡ 0 = omega arith in
-    (omega arith, omega arith, rw e (sym (every-none _)))
+    (omega arith, omega arith, rw e (sym (every_none _)))
 
 pub bounds-a-p : goal.bounds-a-p
 bounds-a-p c = omega (arith, c.lesser-end.ensures.right)

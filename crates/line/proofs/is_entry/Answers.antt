@@ -1,7 +1,7 @@
 use mathlib.Core.Path.{sym, ◌∙◌}
 use native.Mathlib.Omega.{arith}
 use lib.Seq.{length-take-le}
-use Rattle.base.proofs.Search.{every-none, every_more}
+use Rattle.base.proofs.Search.{every_none, every_more}
 use Rattle.line.specs.Told.{hand_of}
 use Rattle.line.proofs.Lines.{entry_of, told_short, unfit, other_length, other_byte, same_byte, all_same}
 use Rattle.line.proofs.is_entry.Goals as goal
@@ -18,7 +18,7 @@ pub returns-then-whole-line : goal.returns-then-whole-line
 returns-then-whole-line c = sym (entry_of c.args.s c.args.line.now c.read_line-t.result c.read_line-t.ensures ∙ other_length c.args.line.now c.args.s (hand_of c.read_line-t.result c.args.line.now) _ c.line_length-whole.ensures c.if-whole-eq0.false c.if-whole-line.true)
 
 pub loop-k-init : goal.loop-k-init
-loop-k-init c = (omega arith, every-none _)
+loop-k-init c = (omega arith, every_none _)
 
 pub returns-then-line-k : goal.returns-then-line-k
 returns-then-line-k c = sym (entry_of c.args.s c.args.line.now c.read_line-t.result c.read_line-t.ensures ∙ other_byte c.args.line.now c.args.s (hand_of c.read_line-t.result c.args.line.now) _ c.line_length-whole.ensures c.if-whole-eq0.false c.if-whole-line.false _ _ c.loop-k-test.true c.line_byte.ensures c.if-line-k.true)
