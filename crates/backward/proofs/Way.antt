@@ -11,7 +11,7 @@ use lib.ListN.{length, get_or, take, drop, length-append}
 use lib.Seq.{get_or-append-add, get_or-append_seam}
 use Rattle.files.specs.Parts.{join, between}
 use Rattle.files.specs.Files.{LF}
-use Rattle.files.proofs.Parts.{between-mid}
+use Rattle.files.proofs.Parts.{between_mid}
 use Rattle.verdict.specs.Verdict as words
 use Rattle.entry.specs.Entry.{space, digit_of, fields, trailer, entry}
 use Rattle.handed.specs.Handed.{Handed, verdict_of, fits_layout}
@@ -33,30 +33,30 @@ start_less f at h = go (ltb (pointed f at) at) refl
 
 -- the entry that ends at a place, case by case
 module _ (f : List ℕ) (at : ℕ) where
-  pub before-none : at ≡ 0 → Refused 16 0 ≡ fetched_before f at
+  pub before_none : at ≡ 0 → Refused 16 0 ≡ fetched_before f at
   unfolding fetched_before
-  before-none e = rw (eq-eqb at 0 e)
+  before_none e = rw (eq-eqb at 0 e)
 
   module _ (some : at ≢ 0) where
-    pub before-past : length f < at → Refused 16 0 ≡ fetched_before f at
+    pub before_past : length f < at → Refused 16 0 ≡ fetched_before f at
     unfolding fetched_before
-    before-past l = rw (ne_eqb at 0 some, lt-ltb (length f) at l)
+    before_past l = rw (ne_eqb at 0 some, lt-ltb (length f) at l)
 
     module _ (fits : at ≤ length f) (s : ℕ) (e : s ≡ start_before f at) where
-      pub before-torn : get_or f (at - 1) 0 ≢ LF → Refused 13 s ≡ fetched_before f at
+      pub before_torn : get_or f (at - 1) 0 ≢ LF → Refused 13 s ≡ fetched_before f at
       unfolding fetched_before
-      before-torn n = rw (ne_eqb at 0 some, le-ltb (length f) at fits, ne_eqb (get_or f (at - 1) 0) LF n, e)
+      before_torn n = rw (ne_eqb at 0 some, le-ltb (length f) at fits, ne_eqb (get_or f (at - 1) 0) LF n, e)
 
       module _ (ends : get_or f (at - 1) 0 ≡ LF) (b : Bool) (i : b ≡ is_entry s (between s (at - 1) f)) where
-        said-there : (r : Fetched) → cond b (Entry (entry_at s (told_by (between s (at - 1) f)))) (Refused 13 s) ≡ r → r ≡ fetched_before f at
+        said_there : (r : Fetched) → cond b (Entry (entry_at s (told_by (between s (at - 1) f)))) (Refused 13 s) ≡ r → r ≡ fetched_before f at
         unfolding fetched_before
-        said-there r q = sym q ∙ rw (ne_eqb at 0 some, le-ltb (length f) at fits, eq-eqb (get_or f (at - 1) 0) LF ends, i, e)
+        said_there r q = sym q ∙ rw (ne_eqb at 0 some, le-ltb (length f) at fits, eq-eqb (get_or f (at - 1) 0) LF ends, i, e)
 
-        pub before-entry : b ≡ true → (t : Told) → t ≡ told_by (between s (at - 1) f) → Entry (entry_at s t) ≡ fetched_before f at
-        before-entry h t q = said-there _ (rw (h, q))
+        pub before_entry : b ≡ true → (t : Told) → t ≡ told_by (between s (at - 1) f) → Entry (entry_at s t) ≡ fetched_before f at
+        before_entry h t q = said_there _ (rw (h, q))
 
-        pub before-other : b ≡ false → Refused 13 s ≡ fetched_before f at
-        before-other h = said-there _ (rw h)
+        pub before_other : b ≡ false → Refused 13 s ≡ fetched_before f at
+        before_other h = said_there _ (rw h)
 
 first_figure : (s : ℕ) → s < 100000 → digit_of (s / 10000) - 48 ≡ s / 10000
 first_figure s h = omega arith
@@ -95,13 +95,13 @@ module _ (before after : List ℕ) (h : Handed) (fits : fits_layout h ≡ true) 
   unfolding entry front
   long = length-append (join space (fields (verdict_of h))) (trailer s)
 
-  pub book-long : length book ≡ end + length after
-  book-long = length-append before (line ++ (LF ∷ after)) ∙ omega (arith, length-append line (LF ∷ after))
+  pub book_long : length book ≡ end + length after
+  book_long = length-append before (line ++ (LF ∷ after)) ∙ omega (arith, length-append line (LF ∷ after))
 
   -- byte j of the trailer and the LF
-  tail-byte : (j : ℕ) (k : ℕ) → k + j ≡ 7 → 1 ≤ k → get_or book (end - k) 0 ≡ get_or (trailer s ++ (LF ∷ after)) j 0
+  tail_byte : (j : ℕ) (k : ℕ) → k + j ≡ 7 → 1 ≤ k → get_or book (end - k) 0 ≡ get_or (trailer s ++ (LF ∷ after)) j 0
   unfolding entry front
-  tail-byte j k e l =
+  tail_byte j k e l =
       let z : end - k ≡ s + (length front + j) = omega (arith, long) in
       ap (λ (i : ℕ). get_or book i 0) z
       ∙ get_or-append-add before (line ++ (LF ∷ after)) (length front + j) 0
@@ -113,12 +113,12 @@ module _ (before after : List ℕ) (h : Handed) (fits : fits_layout h ≡ true) 
   points =
       rw (
         le-ltb end 6 (omega (arith, long)),
-        le-ltb (length book) end (omega (arith, book-long)),
-        tail-byte 1 6 refl (omega arith),
-        tail-byte 2 5 refl (omega arith),
-        tail-byte 3 4 refl (omega arith),
-        tail-byte 4 3 refl (omega arith),
-        tail-byte 5 2 refl (omega arith),
+        le-ltb (length book) end (omega (arith, book_long)),
+        tail_byte 1 6 refl (omega arith),
+        tail_byte 2 5 refl (omega arith),
+        tail_byte 3 4 refl (omega arith),
+        tail_byte 4 3 refl (omega arith),
+        tail_byte 5 2 refl (omega arith),
       )
       (said_back s small)
 
@@ -131,5 +131,5 @@ module _ (before after : List ℕ) (h : Handed) (fits : fits_layout h ≡ true) 
   pub fetches : fetched_before book end ≡ Entry (entry_at s (record { name_length = length h.name; inputs = h.inputs; rows = h.rows; finding = h.finding }))
   unfolding fetched_before
   fetches =
-      let l : between s (end - 1) book ≡ line = between-mid LF before line (LF ∷ after) (end - 1) (omega arith) in
-      rw (ne_eqb end 0 (λ z. omega arith), le-ltb (length book) end (omega (arith, book-long)), eq-eqb (get_or book (end - 1) 0) LF (tail-byte 6 1 refl (omega arith)), starts, l, entry_is s h fits, told_entry s h fits)
+      let l : between s (end - 1) book ≡ line = between_mid LF before line (LF ∷ after) (end - 1) (omega arith) in
+      rw (ne_eqb end 0 (λ z. omega arith), le-ltb (length book) end (omega (arith, book_long)), eq-eqb (get_or book (end - 1) 0) LF (tail_byte 6 1 refl (omega arith)), starts, l, entry_is s h fits, told_entry s h fits)

@@ -15,7 +15,6 @@ use Rattle.orders.specs.Vectors.{vector_of}
 use Rattle.verdict.specs.Numbers.{number_from}
 use Rattle.verdict.specs.Meaning.{shown, meant}
 use Rattle.verdict.specs.declared.Witness.{Witness}
-use Rattle.verdict.specs.declared.Finding.{Finding}
 use Rattle.verdict.specs.declared.Finding.TheVariants.{Independent, Dependent}
 use Rattle.files.specs.Parts.{after_mark, next_mark, part_at}
 use Rattle.files.specs.Files.{LF}
@@ -67,13 +66,13 @@ unfolding keep keep_witness entry meant shown vector_of value_of ℕ_discrete
 keep_long s = refl
 
 module _ (book : List ℕ) (stated : ℕ) (large : 65536 ≤ length book) where
-  pub last-place : (appended_at book stated 65500 keep).answer ≡ append.Stated (max stated 65536)
+  pub last_place : (appended_at book stated 65500 keep).answer ≡ append.Stated (max stated 65536)
   unfolding appended_at
-  last-place = rw (keep_fits, keep_long 65500, le-ltb (length book) 65536 large)
+  last_place = rw (keep_fits, keep_long 65500, le-ltb (length book) 65536 large)
 
-  pub one-past : appended_at book stated 65501 keep ≡ refusal book 15 65501
+  pub one_past : appended_at book stated 65501 keep ≡ refusal book 15 65501
   unfolding appended_at
-  one-past = rw (keep_fits, keep_long 65501, le-ltb (length book) 65536 large)
+  one_past = rw (keep_fits, keep_long 65501, le-ltb (length book) 65536 large)
 
 -- ---- an entry of 93 bytes
 

@@ -1,35 +1,31 @@
 -- A file that holds verdicts, and what the calls answer to it. Assumes nothing.
 use mathlib.Core.Path.{◌≡◌, refl, sym, ap, ap₂, ◌∙◌}
-use mathlib.Core.Logic.{◌≢◌}
 use mathlib.Core.Bool.{Bool, true, false, cond}
-use mathlib.Core.List.{List, [], ◌∷◌, ◌++◌, append_assoc, append-nil}
+use mathlib.Core.List.{List, [], ◌∷◌, ◌++◌, append_assoc}
 use Prim.Native.Nat.{ℕ, zero, suc, ◌+◌, ◌-◌, ◌≤◌, ◌<◌, max}
 use native.Mathlib.Omega.{arith}
-use borrow.Author.Tests.{le-ltb, ne_eqb, leb-true, ltb-true, ltb-false}
-use lib.Dec.{eqb, ltb, leb}
+use borrow.Author.Tests.{le-ltb, ne_eqb, leb-true}
+use lib.Dec.{ltb, leb}
 use lib.ListN.{length, get_or, take, drop, length-append}
 use lib.Seq.{take-append_seam, drop-append_seam, take-append-le}
 use Rattle.base.specs.Limits.{book_limit}
 use Rattle.files.specs.Parts.{Without, join, split, after_mark, part_at}
 use Rattle.files.specs.Files.{LF, good, whole, Cut}
-use Rattle.files.proofs.Parts.{Clean, none, more, split-join, part_in, after-join, part_join, join-snoc}
+use Rattle.files.proofs.Parts.{Clean, none, more, split_join, part_in, after_join, part_join, join_snoc}
 use Rattle.files.proofs.Files.{Held, held_good, held_whole, held_cut, held_lines, after_append, length_whole}
 use Rattle.entry.specs.Entry.{entry}
 use Rattle.handed.specs.Handed.{Handed, verdict_of, fits_layout}
 use Rattle.handed.proofs.Fit.{parts_of}
 use Rattle.entry.proofs.Clean.{entry_line}
-use Rattle.line.specs.Told.{told_by, is_entry}
+use Rattle.line.specs.Told.{told_by}
 use Rattle.line.specs.declared.Told.{Told}
 use Rattle.line.proofs.Round.{told_entry, entry_is, name_of_entry, name_in_entry}
 use Rattle.book.specs.declared.Good.{Good}
-use Rattle.book.specs.declared.Opened.{Opened}
 use Rattle.book.specs.declared.Opened.TheVariants as open-book
-use Rattle.book.specs.declared.Appended.{Appended}
 use Rattle.book.specs.declared.Appended.TheVariants as append
 use Rattle.book.specs.declared.Entry.{Entry}
-use Rattle.book.specs.declared.Fetched.{Fetched}
 use Rattle.book.specs.declared.Fetched.TheVariants as fetch
-use Rattle.book.specs.Book.{limit_of, opened_from, opened_file, opened, on_opened, Outcome, line_of, written, with_bytes, refusal, appended_at, appended, entry_at, entry_of, fetched}
+use Rattle.book.specs.Book.{limit_of, opened_from, opened_file, opened, Outcome, line_of, written, with_bytes, refusal, appended_at, appended, entry_at, entry_of, fetched}
 use Rattle.book.specs.Runs.{lines_from, book_of, AllFit, none_left, one_fits, held_in}
 use Rattle.book.proofs.Appending.{limit_le}
 
@@ -59,7 +55,7 @@ lines_snoc s (a ∷ hs) h n e =
 
 -- a verdict more is a line more
 pub book_snoc : (s : ℕ) (hs : List Handed) (h : Handed) (n : ℕ) → n ≡ s + length (join LF (lines_from s hs)) → join LF (lines_from s (hs ++ (h ∷ []))) ≡ join LF (lines_from s hs) ++ line_of n h
-book_snoc s hs h n e = ap (join LF) (lines_snoc s hs h n e) ∙ join-snoc LF (lines_from s hs) (entry n (verdict_of h))
+book_snoc s hs h n e = ap (join LF) (lines_snoc s hs h n e) ∙ join_snoc LF (lines_from s hs) (entry n (verdict_of h))
 
 line_at : (s : ℕ) (hs : List Handed) (d : Handed) (k : ℕ) → k < length hs →
     get_or (lines_from s hs) k [] ≡ entry (s + length (join LF (take k (lines_from s hs)))) (verdict_of (get_or hs k d))
@@ -131,8 +127,8 @@ module _ (f : List ℕ) (hs : List Handed) (k : Kept f hs) (rest : List ℕ) whe
   abbrev place : ℕ
   place = length (book_of hs)
 
-  pub place-good : good f ≡ place
-  place-good = held_good k.held
+  pub place_good : good f ≡ place
+  place_good = held_good k.held
 
   in_buffer : length f ≤ length buffer
   in_buffer = omega (arith, length-append f rest)
@@ -142,20 +138,20 @@ module _ (f : List ℕ) (hs : List Handed) (k : Kept f hs) (rest : List ℕ) whe
   abbrev pub found : Good
   found = record { entries = length hs; good = length (book_of hs); torn = length f - length (book_of hs) }
 
-  file-opened : opened_file f ≡ open-book.Book found
+  file_opened : opened_file f ≡ open-book.Book found
   unfolding opened_file
-  file-opened =
+  file_opened =
       let t : List ℕ = k.held.tail in
-      let e : split LF f ≡ (lines_from 0 hs, t) = ap (split LF) k.held.file ∙ split-join LF t (lines_clean 0 k.fit) k.held.open_end in
+      let e : split LF f ≡ (lines_from 0 hs, t) = ap (split LF) k.held.file ∙ split_join LF t (lines_clean 0 k.fit) k.held.open_end in
       let n : length t ≡ length f - length (book_of hs) = omega (arith, length-append (book_of hs) t, ap length k.held.file) in
       let x : 0 + length hs ≡ length hs = omega arith in
       let y : 0 + length (book_of hs) ≡ length (book_of hs) = omega arith in
       ap (λ (p : List (List ℕ) × List ℕ). opened_from 0 0 p.0 p.1) e ∙ opened_lines 0 0 t k.fit ∙ rw (x, y, n)
 
-  pub kept-opened : opened buffer (length f) ≡ open-book.Book found
+  pub kept_opened : opened buffer (length f) ≡ open-book.Book found
   unfolding opened
-  kept-opened =
-      rw (le-ltb (limit_of (f ++ rest)) (length f) (limit_ge (f ++ rest) (length f) in_buffer k.short), take-append_seam f rest) file-opened
+  kept_opened =
+      rw (le-ltb (limit_of (f ++ rest)) (length f) (limit_ge (f ++ rest) (length f) in_buffer k.short), take-append_seam f rest) file_opened
 
   -- ---- fetch
 
@@ -169,9 +165,9 @@ module _ (f : List ℕ) (hs : List Handed) (k : Kept f hs) (rest : List ℕ) whe
     tail : List ℕ
     tail = k.held.tail ++ rest
 
-    bytes-are : buffer ≡ join LF (lines_from 0 hs) ++ tail
+    bytes_are : buffer ≡ join LF (lines_from 0 hs) ++ tail
     unfolding tail
-    bytes-are = ap (λ (l : List ℕ). l ++ rest) k.held.file ∙ append_assoc (join LF (lines_from 0 hs)) k.held.tail rest
+    bytes_are = ap (λ (l : List ℕ). l ++ rest) k.held.file ∙ append_assoc (join LF (lines_from 0 hs)) k.held.tail rest
 
     in_lines : i < length (lines_from 0 hs)
     in_lines = omega (arith, lines_length 0 hs)
@@ -179,8 +175,8 @@ module _ (f : List ℕ) (hs : List Handed) (k : Kept f hs) (rest : List ℕ) whe
     fits_one : fits_layout one ≡ true
     fits_one = fit_at d i k.fit inside
 
-    line-is : get_or (lines_from 0 hs) i [] ≡ entry start (verdict_of one)
-    line-is =
+    line_is : get_or (lines_from 0 hs) i [] ≡ entry start (verdict_of one)
+    line_is =
         let z : 0 + length (join LF (take i (lines_from 0 hs))) ≡ length (join LF (take i (lines_from 0 hs))) = omega arith in
         line_at 0 hs d i inside ∙ rw z
 
@@ -191,26 +187,26 @@ module _ (f : List ℕ) (hs : List Handed) (k : Kept f hs) (rest : List ℕ) whe
     unfolding entry_of
     entry_found =
         ap₂ entry_at
-        (ap (after_mark LF i) bytes-are ∙ after-join LF tail i (lines_clean 0 k.fit) (omega (arith, in_lines)))
-        (ap told_by (ap (part_at LF i) bytes-are ∙ part_join LF tail i (lines_clean 0 k.fit) in_lines ∙ line-is) ∙ told_entry start one fits_one)
+        (ap (after_mark LF i) bytes_are ∙ after_join LF tail i (lines_clean 0 k.fit) (omega (arith, in_lines)))
+        (ap told_by (ap (part_at LF i) bytes_are ∙ part_join LF tail i (lines_clean 0 k.fit) in_lines ∙ line_is) ∙ told_entry start one fits_one)
 
-    name-found : take (length one.name) (drop start buffer) ≡ one.name
-    name-found =
+    name_found : take (length one.name) (drop start buffer) ≡ one.name
+    name_found =
         let b : List ℕ = entry start (verdict_of one) in
         let behind : List ℕ = LF ∷ (join LF (drop (suc i) (lines_from 0 hs)) ++ tail) in
-        ap (λ (l : List ℕ). take (length one.name) (drop start l)) (bytes-are ∙ part_in LF (lines_from 0 hs) tail i in_lines)
-        ∙ ap (take (length one.name)) (drop-append_seam (join LF (take i (lines_from 0 hs))) (get_or (lines_from 0 hs) i [] ++ behind) ∙ ap (λ (l : List ℕ). l ++ behind) line-is)
+        ap (λ (l : List ℕ). take (length one.name) (drop start l)) (bytes_are ∙ part_in LF (lines_from 0 hs) tail i in_lines)
+        ∙ ap (take (length one.name)) (drop-append_seam (join LF (take i (lines_from 0 hs))) (get_or (lines_from 0 hs) i [] ++ behind) ∙ ap (λ (l : List ℕ). l ++ behind) line_is)
         ∙ take-append-le (length one.name) b behind (name_in_entry start one)
         ∙ name_of_entry start one fits_one
 
-    pub fetched-is : fetched buffer (length f) (suc i) ≡ fetch.Entry (entry_at start told)
+    pub fetched_is : fetched buffer (length f) (suc i) ≡ fetch.Entry (entry_at start told)
     unfolding fetched
-    fetched-is =
+    fetched_is =
         let less : suc i - 1 ≡ i = omega arith in
-        rw (kept-opened, ne_eqb (suc i) 0 (λ z. omega arith), le-ltb (length hs) (suc i) (omega arith), less) (ap fetch.Entry entry_found)
+        rw (kept_opened, ne_eqb (suc i) 0 (λ z. omega arith), le-ltb (length hs) (suc i) (omega arith), less) (ap fetch.Entry entry_found)
 
-    pub kept-fetched : (e : Entry) × (fetched buffer (length f) (suc i) ≡ fetch.Entry e) × (held_in buffer e ≡ get_or hs i d)
-    kept-fetched = (entry_at start told, fetched-is, ap (λ (a : List ℕ). hand a) name-found)
+    pub kept_fetched : (e : Entry) × (fetched buffer (length f) (suc i) ≡ fetch.Entry e) × (held_in buffer e ≡ get_or hs i d)
+    kept_fetched = (entry_at start told, fetched_is, ap (λ (a : List ℕ). hand a) name_found)
       where
         hand : List ℕ → Handed
         hand a = record { name = a; inputs = one.inputs; rows = one.rows; finding = one.finding }
@@ -224,20 +220,20 @@ module _ (f : List ℕ) (hs : List Handed) (k : Kept f hs) (rest : List ℕ) whe
 
     pub standing : buffer ≡ ahead ++ (entry (length ahead) (verdict_of one) ++ (LF ∷ behind))
     unfolding tail
-    standing = bytes-are ∙ part_in LF (lines_from 0 hs) tail i in_lines ∙ ap (λ (l : List ℕ). ahead ++ (l ++ (LF ∷ behind))) line-is
+    standing = bytes_are ∙ part_in LF (lines_from 0 hs) tail i in_lines ∙ ap (λ (l : List ℕ). ahead ++ (l ++ (LF ∷ behind))) line_is
 
     -- where the first i entries end, and where the next one does
-    pub starts-at : length (book_of (take i hs)) ≡ length ahead
-    starts-at = ap (λ (l : List (List ℕ)). length (join LF l)) (sym (take_lines 0 hs i))
+    pub starts_at : length (book_of (take i hs)) ≡ length ahead
+    starts_at = ap (λ (l : List (List ℕ)). length (join LF l)) (sym (take_lines 0 hs i))
 
     pub ends_at : length (book_of (take (suc i) hs)) ≡ length ahead + suc (length (entry (length ahead) (verdict_of one)))
     ends_at =
         ap (λ (l : List (List ℕ)). length (join LF l)) (sym (take_lines 0 hs (suc i)))
         ∙ one_line (lines_from 0 hs) i in_lines
-        ∙ ap (λ (l : List ℕ). length ahead + suc (length l)) line-is
+        ∙ ap (λ (l : List ℕ). length ahead + suc (length l)) line_is
 
-    pub ahead-short : length ahead ≤ book_limit
-    ahead-short =
+    pub ahead_short : length ahead ≤ book_limit
+    ahead_short =
         let r : List ℕ = get_or (lines_from 0 hs) i [] ++ (LF ∷ (join LF (drop (suc i) (lines_from 0 hs)) ++ k.held.tail)) in
         let e : length f ≡ length (ahead ++ r) = ap length (k.held.file ∙ part_in LF (lines_from 0 hs) k.held.tail i in_lines) in
         omega (arith, e, length-append ahead r, k.short)
@@ -250,7 +246,7 @@ module _ (f : List ℕ) (hs : List Handed) (k : Kept f hs) (rest : List ℕ) whe
 
     at_place : appended buffer (length f) h ≡ appended_at buffer (length f) place h
     unfolding appended
-    at_place = rw kept-opened
+    at_place = rw kept_opened
 
     -- an append that is not refused: the verdict fits, there is room, and this is the answer
     pub record Accepted (m : ℕ) : Type 0 where
@@ -278,16 +274,16 @@ module _ (f : List ℕ) (hs : List Handed) (k : Kept f hs) (rest : List ℕ) whe
     abbrev body : List ℕ
     body = entry place (verdict_of h)
 
-    line-length : length line ≡ suc (length body)
-    line-length = length-append (entry place (verdict_of h)) (LF ∷ []) ∙ omega arith
+    line_length_lem : length line ≡ suc (length body)
+    line_length_lem = length-append (entry place (verdict_of h)) (LF ∷ []) ∙ omega arith
 
     -- the file after an append
     pub kept_whole : (m : ℕ) → (appended buffer (length f) h).answer ≡ append.Stated m → take m (appended buffer (length f) h).bytes ≡ whole f body
     kept_whole m e =
         let a : Accepted m = accepted m e in
         let t : take (length f) (f ++ rest) ≡ f = take-append_seam f rest in
-        let g : good (take (length f) (f ++ rest)) ≡ place = ap good t ∙ place-good in
-        rw place-good
+        let g : good (take (length f) (f ++ rest)) ≡ place = ap good t ∙ place_good in
+        rw place_good
         (ap₂ take a.stated a.bytes
         ∙ (rw (g, t) at (after_append (f ++ rest) body (length f) in_buffer (rw g (omega (arith, a.room, (limit_le buffer).0))))))
 
@@ -297,15 +293,15 @@ module _ (f : List ℕ) (hs : List Handed) (k : Kept f hs) (rest : List ℕ) whe
         record {
           held = rw (lines_snoc 0 hs h (length (book_of hs)) (omega arith)) (held_whole (entry (length (book_of hs)) (verdict_of h)) k.held);
           fit = fit_snoc h k.fit a.fits;
-          short = omega (arith, length_whole f (entry (length (book_of hs)) (verdict_of h)), place-good, k.short, a.room, line-length, (limit_le buffer).1);
+          short = omega (arith, length_whole f (entry (length (book_of hs)) (verdict_of h)), place_good, k.short, a.room, line_length_lem, (limit_le buffer).1);
         }
 
     -- a cut before the LF was held leaves the verdicts as they were
-    pub kept-cut : (m : ℕ) (g : List ℕ) → (appended buffer (length f) h).answer ≡ append.Stated m → Cut f body g → Kept g hs
-    kept-cut m g e c =
+    pub kept_cut : (m : ℕ) (g : List ℕ) → (appended buffer (length f) h).answer ≡ append.Stated m → Cut f body g → Kept g hs
+    kept_cut m g e c =
         let a : Accepted m = accepted m e in
         record {
           held = held_cut (entry place (verdict_of h)) g (entry_clean place h a.fits) k.held c;
           fit = k.fit;
-          short = omega (arith, c.to, place-good, k.short, a.room, line-length, (limit_le buffer).1);
+          short = omega (arith, c.to, place_good, k.short, a.room, line_length_lem, (limit_le buffer).1);
         }

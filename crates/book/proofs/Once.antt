@@ -1,8 +1,8 @@
 -- No two different answers satisfy the contract of a call; a refused append changes no byte, and any other only the entry's places. Assumes nothing.
 use mathlib.Core.Path.{◌≡◌, refl, sym, ap, ◌∙◌}
 use mathlib.Core.Bool.{Bool, true, false, cond}
-use mathlib.Core.List.{List, [], ◌∷◌, ◌++◌}
-use Prim.Native.Nat.{ℕ, suc, ◌+◌, ◌-◌, ◌≤◌, ◌<◌, max}
+use mathlib.Core.List.{List, ◌++◌}
+use Prim.Native.Nat.{ℕ, ◌+◌, ◌-◌, ◌≤◌, ◌<◌, max}
 use native.Mathlib.Omega.{arith}
 use borrow.Author.Tests.{leb-true}
 use lib.Dec.{leb}
@@ -34,22 +34,22 @@ pub data Left (book : List ℕ) : Outcome → Type 0 where
   line_put : (m s : ℕ) (line : List ℕ) → s + length line ≤ length book → Left book (outcome (Stated m) (with_bytes book s (length line) line))
 
 module _ (book : List ℕ) (stated : ℕ) (h : Handed) where
-  at-tests : (s : ℕ) (x y : Bool) → leb (s + length (line_of s h)) (limit_of book) ≡ y → Left book (cond x (cond y (written book stated s (line_of s h)) (refusal book 15 s)) (refusal book 14 0))
-  at-tests s true true e = line_put (max stated (s + length (line_of s h))) s (line_of s h) (omega (arith, leb-true (s + length (line_of s h)) (limit_of book) e, (limit_le book).0))
-  at-tests s true false e = same_bytes 15 s
-  at-tests s false y e = same_bytes 14 0
+  at_tests : (s : ℕ) (x y : Bool) → leb (s + length (line_of s h)) (limit_of book) ≡ y → Left book (cond x (cond y (written book stated s (line_of s h)) (refusal book 15 s)) (refusal book 14 0))
+  at_tests s true true e = line_put (max stated (s + length (line_of s h))) s (line_of s h) (omega (arith, leb-true (s + length (line_of s h)) (limit_of book) e, (limit_le book).0))
+  at_tests s true false e = same_bytes 15 s
+  at_tests s false y e = same_bytes 14 0
 
   at_left : (s : ℕ) → Left book (appended_at book stated s h)
   unfolding appended_at
-  at_left s = at-tests s (fits_layout h) (leb (s + length (line_of s h)) (limit_of book)) refl
+  at_left s = at_tests s (fits_layout h) (leb (s + length (line_of s h)) (limit_of book)) refl
 
-  by-opening : (o : Opened) → Left book (on_opened o (λ g. appended_at book stated g.good h) (refusal book))
-  by-opening (open-book.Book g) = at_left g.good
-  by-opening (open-book.Refused n p) = same_bytes n p
+  by_opening : (o : Opened) → Left book (on_opened o (λ g. appended_at book stated g.good h) (refusal book))
+  by_opening (open-book.Book g) = at_left g.good
+  by_opening (open-book.Refused n p) = same_bytes n p
 
-  pub append-leaves : Left book (appended book stated h)
+  pub append_leaves : Left book (appended book stated h)
   unfolding appended
-  append-leaves = by-opening (opened book stated)
+  append_leaves = by_opening (opened book stated)
 
 left_refused : {book : List ℕ} {o : Outcome} (n p : ℕ) → Left book o → o.answer ≡ Refused n p → o.bytes ≡ book
 left_refused n p (same_bytes a b) e = refl
@@ -57,23 +57,23 @@ left_refused n p (line_put m s line r) e = absurd (let z : ◌≡◌ {A = ℕ} 0
 
 -- a refused append changes no byte
 pub refused_same : (book : List ℕ) (stated : ℕ) (h : Handed) (n p : ℕ) → (appended book stated h).answer ≡ Refused n p → (appended book stated h).bytes ≡ book
-refused_same book stated h n p e = left_refused n p (append-leaves book stated h) e
+refused_same book stated h n p e = left_refused n p (append_leaves book stated h) e
 
 -- a line put at place s changes no other place, and not the length
 module _ (book : List ℕ) (s : ℕ) (line : List ℕ) (room : s + length line ≤ length book) where
   front : length (take s book) ≡ s
   front = length-take-le s book (omega arith)
 
-  pub put-length : length (with_bytes book s (length line) line) ≡ length book
-  put-length =
+  pub put_length : length (with_bytes book s (length line) line) ≡ length book
+  put_length =
       length-append (take s book) (line ++ drop (s + length line) book)
       ∙ omega (arith, front, length-append line (drop (s + length line) book), length-drop (s + length line) book)
 
-  pub put-before : (k : ℕ) → k < s → get_or (with_bytes book s (length line) line) k 0 ≡ get_or book k 0
-  put-before k h = get_or-append (take s book) (line ++ drop (s + length line) book) 0 k (omega (arith, front)) ∙ get_or-take s book k 0 h
+  pub put_before : (k : ℕ) → k < s → get_or (with_bytes book s (length line) line) k 0 ≡ get_or book k 0
+  put_before k h = get_or-append (take s book) (line ++ drop (s + length line) book) 0 k (omega (arith, front)) ∙ get_or-take s book k 0 h
 
-  pub put-behind : (k : ℕ) → s + length line ≤ k → get_or (with_bytes book s (length line) line) k 0 ≡ get_or book k 0
-  put-behind k h =
+  pub put_behind : (k : ℕ) → s + length line ≤ k → get_or (with_bytes book s (length line) line) k 0 ≡ get_or book k 0
+  put_behind k h =
       let i : ℕ = k - (s + length line) in
       let e : k ≡ length (take s book) + (length line + (k - (s + length line))) = omega (arith, front) in
       let z : s + length line + (k - (s + length line)) ≡ k = omega arith in

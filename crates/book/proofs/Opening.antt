@@ -1,17 +1,15 @@
 -- Opening, line by line. Assumes nothing.
-use mathlib.Core.Path.{◌≡◌, refl, sym, ap, ◌∙◌}
-use mathlib.Core.Logic.{◌≢◌}
-use mathlib.Core.Bool.{Bool, true, false, cond}
-use mathlib.Core.List.{List, [], ◌∷◌, ◌++◌}
+use mathlib.Core.Path.{◌≡◌, refl, ap, ◌∙◌}
+use mathlib.Core.Bool.{true, false, cond}
+use mathlib.Core.List.{List}
 use Prim.Native.Nat.{ℕ, suc, ◌+◌, ◌-◌, ◌≤◌, ◌<◌}
 use native.Mathlib.Omega.{arith}
-use lib.ListN.{length, get_or, take, drop, length-drop}
+use lib.ListN.{length, drop, length-drop}
 use lib.Seq.{length-take-le}
 use Rattle.files.specs.Parts.{split, between, next_mark}
 use Rattle.files.specs.Files.{LF}
-use Rattle.files.proofs.Parts.{next_ge, split-next, split-last}
+use Rattle.files.proofs.Parts.{next_ge, split_next, split_last}
 use Rattle.line.specs.Told.{is_entry}
-use Rattle.book.specs.declared.Good.{Good}
 use Rattle.book.specs.declared.Opened.{Opened}
 use Rattle.book.specs.declared.Opened.TheVariants.{Book, Refused}
 use Rattle.book.specs.Book.{opened_from, opened_file}
@@ -30,20 +28,20 @@ module _ (f : List ℕ) (s e k : ℕ) (inside : s ≤ length f) (q : e ≡ next_
 
   turn : e < length f → from_here f s k ≡ cond (is_entry s (between s e f)) (from_here f (e + 1) (suc k)) (Refused 13 s)
   turn h =
-      let p = split-next LF (λ z. omega arith) f s e inside q h in
+      let p = split_next LF (λ z. omega arith) f s e inside q h in
       let n : s + suc (length (between s e f)) ≡ e + 1 = omega (arith, in_order, length-take-le (e - s) (drop s f) (omega (arith, length-drop s f))) in
       ap (λ (x : List (List ℕ) × List ℕ). opened_from s k x.0 x.1) p
       ∙ ap (λ (m : ℕ). cond (is_entry s (between s e f)) (opened_from m (suc k) (split LF (drop (e + 1) f)).0 (split LF (drop (e + 1) f)).1) (Refused 13 s)) n
 
-  pub line-fails : e < length f → is_entry s (between s e f) ≡ false → from_here f s k ≡ Refused 13 s
-  line-fails h i = turn h ∙ rw i
+  pub line_fails : e < length f → is_entry s (between s e f) ≡ false → from_here f s k ≡ Refused 13 s
+  line_fails h i = turn h ∙ rw i
 
-  pub line-holds : e < length f → is_entry s (between s e f) ≡ true → from_here f s k ≡ from_here f (e + 1) (k + 1)
-  line-holds h i =
+  pub line_holds : e < length f → is_entry s (between s e f) ≡ true → from_here f s k ≡ from_here f (e + 1) (k + 1)
+  line_holds h i =
       let m : suc k ≡ k + 1 = omega arith in
       turn h ∙ rw (i, m)
 
   pub no_line : length f ≤ e → from_here f s k ≡ Book (record { entries = k; good = s; torn = length f - s })
   no_line h =
-      ap (λ (x : List (List ℕ) × List ℕ). opened_from s k x.0 x.1) (split-last LF (λ z. omega arith) f s e inside q h)
+      ap (λ (x : List (List ℕ) × List ℕ). opened_from s k x.0 x.1) (split_last LF (λ z. omega arith) f s e inside q h)
       ∙ ap (λ (t : ℕ). Book (record { entries = k; good = s; torn = t })) (length-drop s f)

@@ -1,13 +1,13 @@
 -- What a loop that writes leaves, as one list. Assumes nothing.
-use mathlib.Core.Path.{◌≡◌, refl, sym, ap, ◌∙◌}
+use mathlib.Core.Path.{◌≡◌, sym, ap, ◌∙◌}
 use mathlib.Core.Logic.{⊎_elim}
-use mathlib.Core.List.{List, [], ◌∷◌, ◌++◌}
+use mathlib.Core.List.{List, ◌++◌}
 use Prim.Native.Nat.{ℕ, ◌+◌, ◌-◌, ◌≤◌, ◌<◌}
 use native.Mathlib.Omega.{arith}
 use lib.ListN.{length, get_or, take, drop, length-append, length-drop, get_or-append}
 use lib.Seq.{ext_get_or, length-take-le, get_or-take, get_or-drop, get_or-append-add}
 use Rattle.base.specs.Listed.{listed}
-use Rattle.base.proofs.Listed.{listed-length, listed_at}
+use Rattle.base.proofs.Listed.{listed_length, listed_at}
 use Rattle.base.proofs.Patched.{Patched}
 use Rattle.base.proofs.Bools.{lt_or_ge}
 use Rattle.book.specs.Book.{with_bytes}
@@ -36,11 +36,11 @@ module _ (f : ℕ → ℕ) (s : ℕ) (a l : List ℕ) (n : ℕ) (w : Patched f s
           let e : k ≡ s + (k - s) = omega arith in
           ap (λ (j : ℕ). get_or l j 0) e
           ∙ w.inside (k - s) (omega arith)
-          ∙ sym (far g ∙ get_or-append (listed f n) (drop (s + n) a) 0 (k - s) (omega (arith, listed-length f n)) ∙ listed_at f n (k - s) 0 (omega arith))
+          ∙ sym (far g ∙ get_or-append (listed f n) (drop (s + n) a) 0 (k - s) (omega (arith, listed_length f n)) ∙ listed_at f n (k - s) 0 (omega arith))
 
       behind : s ≤ k → s + n ≤ k → get_or l k 0 ≡ get_or (take s a ++ back) k 0
       behind g h =
-          let e : k - s ≡ length (listed f n) + (k - (s + n)) = omega (arith, listed-length f n) in
+          let e : k - s ≡ length (listed f n) + (k - (s + n)) = omega (arith, listed_length f n) in
           let z : (s + n) + (k - (s + n)) ≡ k = omega arith in
           w.above k h
           ∙ sym
@@ -53,4 +53,4 @@ module _ (f : ℕ → ℕ) (s : ℕ) (a l : List ℕ) (n : ℕ) (w : Patched f s
   pub patched_bytes : l ≡ with_bytes a s n (listed f n)
   unfolding back
   patched_bytes =
-      ext_get_or 0 l (take s a ++ back) (w.long ∙ sym (length-append (take s a) back ∙ omega (arith, front, length-append (listed f n) (drop (s + n) a), listed-length f n, length-drop (s + n) a))) (λ k h. byte k)
+      ext_get_or 0 l (take s a ++ back) (w.long ∙ sym (length-append (take s a) back ∙ omega (arith, front, length-append (listed f n) (drop (s + n) a), listed_length f n, length-drop (s + n) a))) (λ k h. byte k)

@@ -1,5 +1,5 @@
 -- What opening, append and fetch answer, and the bytes that an append leaves.
-use Rattle.std.specs.Prelude.{Bool, cond, ◌||◌, List, [], ◌∷◌, ◌++◌, ◌≡◌, ℕ, suc, ◌+◌, ◌-◌, ◌≤◌, ◌<◌, max, eqb, leb, ltb, length, get_or, take, drop}
+use Rattle.std.specs.Prelude.{cond, List, [], ◌∷◌, ◌++◌, ℕ, suc, ◌+◌, ◌-◌, max, eqb, leb, ltb, length, take, drop}
 use Rattle.base.specs.Limits.{book_limit}
 use Rattle.files.specs.Parts.{split, after_mark, part_at}
 use Rattle.files.specs.Files.{LF}

@@ -50,122 +50,122 @@ every_rest f n m l h =
 
 module _ (a : List ℕ) where
   -- ---- the name, and what stands behind it
-  name-place : (p : ℕ) → name_at ≤ p → p < kind_at → area_byte (decode a) p ≡ get_or (decode a).name (p - name_at) 0
+  name_place : (p : ℕ) → name_at ≤ p → p < kind_at → area_byte (decode a) p ≡ get_or (decode a).name (p - name_at) 0
   unfolding area_byte
-  name-place p l h = rw (le-ltb p name_at l, lt-ltb p kind_at h)
+  name_place p l h = rw (le-ltb p name_at l, lt-ltb p kind_at h)
 
-  in-name : (p : ℕ) → name_at ≤ p → p < kind_at → p < name_at + get_or a 0 0 → as_encoded a p ≡ true
+  in_name_lem : (p : ℕ) → name_at ≤ p → p < kind_at → p < name_at + get_or a 0 0 → as_encoded a p ≡ true
   unfolding decode
-  in-name p l h g =
+  in_name_lem p l h g =
       let n = get_or a 0 0 in
       let e : name_at + (p - name_at) ≡ p = omega arith in
       eq-eqb (get_or a p 0) (area_byte (decode a) p)
-      (sym (name-place p l h ∙ get_or-take n (drop name_at a) (p - name_at) 0 (omega arith) ∙ get_or-drop name_at a (p - name_at) 0 ∙ ap (λ (q : ℕ). get_or a q 0) e))
+      (sym (name_place p l h ∙ get_or-take n (drop name_at a) (p - name_at) 0 (omega arith) ∙ get_or-drop name_at a (p - name_at) 0 ∙ ap (λ (q : ℕ). get_or a q 0) e))
 
-  pub behind-name : (p : ℕ) → p < kind_at → name_at + get_or a 0 0 ≤ p → as_encoded a p ≡ eqb (get_or a p 0) 0
+  pub behind_name : (p : ℕ) → p < kind_at → name_at + get_or a 0 0 ≤ p → as_encoded a p ≡ eqb (get_or a p 0) 0
   unfolding decode
-  behind-name p h g =
+  behind_name p h g =
       ap (eqb (get_or a p 0))
-      (name-place p (omega arith) h ∙ get_or-eq_default (take (get_or a 0 0) (drop name_at a)) 0 (simp length-take (omega arith)))
+      (name_place p (omega arith) h ∙ get_or-eq_default (take (get_or a 0 0) (drop name_at a)) 0 (simp length-take (omega arith)))
 
-  head-behind : zero_from a (name_at + get_or a 0 0) (kind_at - (name_at + get_or a 0 0)) ≡ true → (p : ℕ) → p < kind_at → name_at + get_or a 0 0 ≤ p → as_encoded a p ≡ true
-  head-behind zero p l b =
+  head_behind : zero_from a (name_at + get_or a 0 0) (kind_at - (name_at + get_or a 0 0)) ≡ true → (p : ℕ) → p < kind_at → name_at + get_or a 0 0 ≤ p → as_encoded a p ≡ true
+  head_behind zero p l b =
       let n = name_at + get_or a 0 0 in
       let e : n + (p - n) ≡ p = omega arith in
-      behind-name p l b ∙ rw e at (every_at (λ (k : ℕ). eqb (get_or a (n + k) 0) 0) (kind_at - n) (p - n) zero (omega arith))
+      behind_name p l b ∙ rw e at (every_at (λ (k : ℕ). eqb (get_or a (n + k) 0) 0) (kind_at - n) (p - n) zero (omega arith))
 
   -- ---- the other places of the head
-  pub length-place : as_encoded a 0 ≡ eqb (get_or a 0 0) (length (decode a).name)
+  pub length_place : as_encoded a 0 ≡ eqb (get_or a 0 0) (length (decode a).name)
   unfolding area_byte
-  length-place = refl
+  length_place = refl
 
-  pub kind-place : as_encoded a kind_at ≡ eqb (get_or a kind_at 0) (kind_byte (decode a).sequential)
+  pub kind_place : as_encoded a kind_at ≡ eqb (get_or a kind_at 0) (kind_byte (decode a).sequential)
   unfolding area_byte
-  kind-place = refl
+  kind_place = refl
 
-  inputs-place : as_encoded a inputs_at ≡ true
+  inputs_place : as_encoded a inputs_at ≡ true
   unfolding area_byte decode
-  inputs-place = eq-eqb (get_or a inputs_at 0) (get_or a inputs_at 0) refl
+  inputs_place = eq-eqb (get_or a inputs_at 0) (get_or a inputs_at 0) refl
 
-  pub start-place : as_encoded a start_at ≡ eqb (get_or a start_at 0) (byte_of (decode a).start)
+  pub start_place : as_encoded a start_at ≡ eqb (get_or a start_at 0) (byte_of (decode a).start)
   unfolding area_byte
-  start-place = refl
+  start_place = refl
 
-  count-place : as_encoded a count_at ≡ true
+  count_place : as_encoded a count_at ≡ true
   unfolding area_byte
-  count-place = eq-eqb (get_or a count_at 0) (length (decode a).rows) (sym (decode_count a))
+  count_place = eq-eqb (get_or a count_at 0) (length (decode a).rows) (sym (decode_count a))
 
-  head-places : as_encoded a 0 ≡ true → zero_from a (name_at + get_or a 0 0) (kind_at - (name_at + get_or a 0 0)) ≡ true
+  head_places : as_encoded a 0 ≡ true → zero_from a (name_at + get_or a 0 0) (kind_at - (name_at + get_or a 0 0)) ≡ true
       → as_encoded a kind_at ≡ true → as_encoded a start_at ≡ true → (p : ℕ) → p < rows_at → as_encoded a p ≡ true
-  head-places name zero kind start p h =
+  head_places name zero kind start p h =
       ⊎_elim (λ (l : p < name_at). let e : p ≡ 0 = omega arith in rw e name)
-      (λ (g : name_at ≤ p). ⊎_elim (λ (l : p < kind_at). ⊎_elim (λ (b : p < name_at + get_or a 0 0). in-name p g l b) (λ (b : name_at + get_or a 0 0 ≤ p). head-behind zero p l b) (lt_or_ge p (name_at + get_or a 0 0)))
+      (λ (g : name_at ≤ p). ⊎_elim (λ (l : p < kind_at). ⊎_elim (λ (b : p < name_at + get_or a 0 0). in_name_lem p g l b) (λ (b : name_at + get_or a 0 0 ≤ p). head_behind zero p l b) (lt_or_ge p (name_at + get_or a 0 0)))
       (λ (g : kind_at ≤ p). ⊎_elim (λ (l : p < inputs_at). let e : p ≡ kind_at = omega arith in rw e kind)
-      (λ (g : inputs_at ≤ p). ⊎_elim (λ (l : p < start_at). let e : p ≡ inputs_at = omega arith in rw e inputs-place)
+      (λ (g : inputs_at ≤ p). ⊎_elim (λ (l : p < start_at). let e : p ≡ inputs_at = omega arith in rw e inputs_place)
       (λ (g : start_at ≤ p). ⊎_elim (λ (l : p < count_at). let e : p ≡ start_at = omega arith in rw e start)
-      (λ (g : count_at ≤ p). let e : p ≡ count_at = omega arith in rw e count-place)
+      (λ (g : count_at ≤ p). let e : p ≡ count_at = omega arith in rw e count_place)
       (lt_or_ge p count_at)) (lt_or_ge p start_at)) (lt_or_ge p inputs_at)) (lt_or_ge p kind_at)) (lt_or_ge p name_at)
 
   -- the head is as encoded where its starting value is, and the rest of it is
-  pub head-is : as_encoded a 0 ≡ true → zero_from a (name_at + get_or a 0 0) (kind_at - (name_at + get_or a 0 0)) ≡ true
+  pub head_is : as_encoded a 0 ≡ true → zero_from a (name_at + get_or a 0 0) (kind_at - (name_at + get_or a 0 0)) ≡ true
       → as_encoded a kind_at ≡ true → as_encoded a start_at ≡ every rows_at (as_encoded a)
-  head-is name zero kind =
+  head_is name zero kind =
       same_truth (as_encoded a start_at) (every rows_at (as_encoded a))
-      (λ start. every_of (as_encoded a) rows_at (head-places name zero kind start))
+      (λ start. every_of (as_encoded a) rows_at (head_places name zero kind start))
       (λ e. every_at (as_encoded a) rows_at start_at e (omega arith))
 
   -- and is not where one of them is not
-  pub head-zero : every rows_at (as_encoded a) ≡ true → zero_from a (name_at + get_or a 0 0) (kind_at - (name_at + get_or a 0 0)) ≡ true
-  head-zero e =
+  pub head_zero : every rows_at (as_encoded a) ≡ true → zero_from a (name_at + get_or a 0 0) (kind_at - (name_at + get_or a 0 0)) ≡ true
+  head_zero e =
       let n = name_at + get_or a 0 0 in
       every_of (λ (k : ℕ). eqb (get_or a (n + k) 0) 0) (kind_at - n)
-      (λ k h. sym (behind-name (n + k) (omega arith) (omega arith)) ∙ every_at (as_encoded a) rows_at (n + k) e (omega arith))
+      (λ k h. sym (behind_name (n + k) (omega arith) (omega arith)) ∙ every_at (as_encoded a) rows_at (n + k) e (omega arith))
 
   -- ---- a row
   module _ (i : ℕ) (h : i < length (decode a).rows) where
-    row-place : (k : ℕ) → k < row_size → as_encoded a (row_place i k) ≡ eqb (get_or a (row_place i k) 0) (row_byte (row_at (decode a) i) k)
+    row_place_lem : (k : ℕ) → k < row_size → as_encoded a (row_place i k) ≡ eqb (get_or a (row_place i k) 0) (row_byte (row_at (decode a) i) k)
     unfolding rows_byte
-    row-place k g =
+    row_place_lem k g =
         let p = row_place i k in
         let e : (p - rows_at) / row_size ≡ i = omega arith in
         let f : (p - rows_at) % row_size ≡ k = omega arith in
         ap (eqb (get_or a p 0)) (rows_place (decode a) p (omega arith) ∙ rw (e, f, lt-ltb i (length (decode a).rows) h))
 
     -- the two bytes of a column
-    part-place : (k m : ℕ) → k < (decode a).inputs → m < 2 → 2 * k + m < row_size
+    part_place : (k m : ℕ) → k < (decode a).inputs → m < 2 → 2 * k + m < row_size
         → as_encoded a (row_place i (2 * k + m)) ≡ eqb (get_or a (row_place i (2 * k + m)) 0) (symbol_part (symbol_in a i k) m)
-    part-place k m g l w =
+    part_place k m g l w =
         let d : (2 * k + m) / 2 ≡ k = omega arith in
         let r : (2 * k + m) % 2 ≡ m = omega arith in
-        row-place (2 * k + m) w
+        row_place_lem (2 * k + m) w
         ∙ ap (eqb (get_or a (row_place i (2 * k + m)) 0)) (decode_part a i (2 * k + m) h (omega arith) ∙ rw (d, r, decode_symbol a i k h g))
 
-    pub column-more : (k : ℕ) → k < (decode a).inputs → 2 * k + 1 < row_size →
+    pub column_more : (k : ℕ) → k < (decode a).inputs → 2 * k + 1 < row_size →
         (row_as_encoded a i (2 * k) && stores_symbol (get_or a (row_place i (2 * k)) 0) (get_or a (row_place i (2 * k + 1)) 0)) ≡ row_as_encoded a i (2 * (k + 1))
     unfolding every stores_symbol symbol_part symbol_in
-    column-more k g w =
+    column_more k g w =
         let n : 2 * (k + 1) ≡ suc (suc (2 * k)) = omega arith in
         let z : 2 * k + 0 ≡ 2 * k = omega arith in
         let s : suc (2 * k) ≡ 2 * k + 1 = omega arith in
-        rw (n, s, rw z at (part-place k 0 g (omega arith) (omega arith)), part-place k 1 g (omega arith) w) (and_turned (row_as_encoded a i (2 * k)) (eqb (get_or a (row_place i (2 * k)) 0) (symbol_part (symbol_in a i k) 0)) (eqb (get_or a (row_place i (2 * k + 1)) 0) (symbol_part (symbol_in a i k) 1)))
+        rw (n, s, rw z at (part_place k 0 g (omega arith) (omega arith)), part_place k 1 g (omega arith) w) (and_turned (row_as_encoded a i (2 * k)) (eqb (get_or a (row_place i (2 * k)) 0) (symbol_part (symbol_in a i k) 0)) (eqb (get_or a (row_place i (2 * k + 1)) 0) (symbol_part (symbol_in a i k) 1)))
 
     -- behind the columns
     module _ (few : (decode a).inputs ≤ input_limit) where
-      pub unused-place : (k : ℕ) → 2 * (decode a).inputs ≤ k → k < state_at → as_encoded a (row_place i k) ≡ eqb (get_or a (row_place i k) 0) 0
-      unused-place k l g =
-          row-place k (omega arith)
+      pub unused_place : (k : ℕ) → 2 * (decode a).inputs ≤ k → k < state_at → as_encoded a (row_place i k) ≡ eqb (get_or a (row_place i k) 0) 0
+      unused_place k l g =
+          row_place_lem k (omega arith)
           ∙ ap (eqb (get_or a (row_place i k) 0)) (decode_behind a i k h l ∙ rw (ne_eqb k state_at (λ e. omega arith), ne_eqb k output_at (λ e. omega arith)))
 
-      state-place : as_encoded a (row_place i state_at) ≡ stores_level (get_or a (row_place i state_at) 0)
+      state_place : as_encoded a (row_place i state_at) ≡ stores_level (get_or a (row_place i state_at) 0)
       unfolding stores_level
-      state-place =
-          row-place state_at (omega arith)
+      state_place =
+          row_place_lem state_at (omega arith)
           ∙ ap (eqb (get_or a (row_place i state_at) 0)) (decode_behind a i state_at h (omega arith) ∙ ap level_byte (decode_state a i h))
 
-      output-place : as_encoded a (row_place i output_at) ≡ stores_output (get_or a (row_place i output_at) 0)
+      output_place : as_encoded a (row_place i output_at) ≡ stores_output (get_or a (row_place i output_at) 0)
       unfolding stores_output
-      output-place =
-          row-place output_at (omega arith)
+      output_place =
+          row_place_lem output_at (omega arith)
           ∙ ap (eqb (get_or a (row_place i output_at) 0)) (decode_behind a i output_at h (omega arith) ∙ ap output_byte (decode_output a i h))
 
       pub row_zero : row_as_encoded a i row_size ≡ true → zero_from a (row_place i (2 * (decode a).inputs)) (state_at - 2 * (decode a).inputs) ≡ true
@@ -174,7 +174,7 @@ module _ (a : List ℕ) where
           every_of (λ (k : ℕ). eqb (get_or a (row_place i n + k) 0) 0) (state_at - n)
           (λ k g.
           let q : row_place i n + k ≡ row_place i (n + k) = omega arith in
-          rw q (sym (unused-place (n + k) (omega arith) (omega arith)) ∙ every_at (λ (m : ℕ). as_encoded a (row_place i m)) row_size (n + k) e (omega arith)))
+          rw q (sym (unused_place (n + k) (omega arith) (omega arith)) ∙ every_at (λ (m : ℕ). as_encoded a (row_place i m)) row_size (n + k) e (omega arith)))
 
       pub row_is : row_as_encoded a i (2 * (decode a).inputs) ≡ true → zero_from a (row_place i (2 * (decode a).inputs)) (state_at - 2 * (decode a).inputs) ≡ true
           → (stores_level (get_or a (row_place i state_at) 0) && stores_output (get_or a (row_place i output_at) 0)) ≡ row_as_encoded a i row_size
@@ -186,25 +186,25 @@ module _ (a : List ℕ) where
           (λ e. every_of (λ (k : ℕ). as_encoded a (row_place i k)) row_size
           (λ k g. ⊎_elim (λ (l : k < n). every_at (λ (m : ℕ). as_encoded a (row_place i m)) n k columns l)
           (λ (b : n ≤ k). ⊎_elim (λ (l : k < state_at). let q : row_place i n + (k - n) ≡ row_place i k = omega arith in
-          unused-place k b l ∙ rw q at (every_at (λ (m : ℕ). eqb (get_or a (row_place i n + m) 0) 0) (state_at - n) (k - n) zero (omega arith)))
-          (λ (b : state_at ≤ k). ⊎_elim (λ (l : k < output_at). let q : k ≡ state_at = omega arith in rw q (state-place ∙ (both s o e).0))
-          (λ (b : output_at ≤ k). let q : k ≡ output_at = omega arith in rw q (output-place ∙ (both s o e).1))
+          unused_place k b l ∙ rw q at (every_at (λ (m : ℕ). eqb (get_or a (row_place i n + m) 0) 0) (state_at - n) (k - n) zero (omega arith)))
+          (λ (b : state_at ≤ k). ⊎_elim (λ (l : k < output_at). let q : k ≡ state_at = omega arith in rw q (state_place ∙ (both s o e).0))
+          (λ (b : output_at ≤ k). let q : k ≡ output_at = omega arith in rw q (output_place ∙ (both s o e).1))
           (lt_or_ge k output_at)) (lt_or_ge k state_at)) (lt_or_ge k n)))
           (λ e. and
-          (sym state-place ∙ every_at (λ (m : ℕ). as_encoded a (row_place i m)) row_size state_at e (omega arith))
-          (sym output-place ∙ every_at (λ (m : ℕ). as_encoded a (row_place i m)) row_size output_at e (omega arith)))
+          (sym state_place ∙ every_at (λ (m : ℕ). as_encoded a (row_place i m)) row_size state_at e (omega arith))
+          (sym output_place ∙ every_at (λ (m : ℕ). as_encoded a (row_place i m)) row_size output_at e (omega arith)))
 
   -- ---- the whole
   module _ (m : ℕ) (w : Lesser row_limit (length (decode a).rows) m) where
-    rest-place : (p : ℕ) → row_place m 0 ≤ p → p < area_size → as_encoded a p ≡ eqb (get_or a p 0) 0
+    rest_place : (p : ℕ) → row_place m 0 ≤ p → p < area_size → as_encoded a p ≡ eqb (get_or a p 0) 0
     unfolding rows_byte
-    rest-place p l g =
+    rest_place p l g =
         let e : m ≡ length (decode a).rows = w.one (omega arith) in
         ap (eqb (get_or a p 0)) (rows_place (decode a) p (omega arith) ∙ rw (le-ltb ((p - rows_at) / row_size) (length (decode a).rows) (omega arith)))
 
-    pub whole-rows : canonical a ≡ true → every m (λ (i : ℕ). row_as_encoded a i row_size) ≡ true
+    pub whole_rows : canonical a ≡ true → every m (λ (i : ℕ). row_as_encoded a i row_size) ≡ true
     unfolding canonical
-    whole-rows e =
+    whole_rows e =
         let l = w.left in
         every_of (λ (i : ℕ). row_as_encoded a i row_size) m
         (λ i h. every_of (λ (k : ℕ). as_encoded a (row_place i k)) row_size (λ k g. every_at (as_encoded a) area_size (row_place i k) e (omega arith)))
@@ -226,11 +226,11 @@ module _ (a : List ℕ) where
         rw q at (every_at (λ (k : ℕ). as_encoded a (row_place i k)) row_size k (every_at (λ (i : ℕ). row_as_encoded a i row_size) m i rows (omega arith)) (omega arith)))
         (λ (c : b ≤ p).
         let q : b + (p - b) ≡ p = omega arith in
-        rest-place p (omega arith) h ∙ rw q at (every_at (λ (k : ℕ). eqb (get_or a (b + k) 0) 0) (area_size - b) (p - b) e (omega arith)))
+        rest_place p (omega arith) h ∙ rw q at (every_at (λ (k : ℕ). eqb (get_or a (b + k) 0) 0) (area_size - b) (p - b) e (omega arith)))
         (lt_or_ge p b)) (lt_or_ge p rows_at)))
         (λ e. every_of (λ (k : ℕ). eqb (get_or a (b + k) 0) 0) (area_size - b)
-        (λ k h. sym (rest-place (b + k) (omega arith) (omega arith)) ∙ every_at (as_encoded a) area_size (b + k) e (omega arith)))
+        (λ k h. sym (rest_place (b + k) (omega arith) (omega arith)) ∙ every_at (as_encoded a) area_size (b + k) e (omega arith)))
 
-  pub whole-head : canonical a ≡ true → every rows_at (as_encoded a) ≡ true
+  pub whole_head : canonical a ≡ true → every rows_at (as_encoded a) ≡ true
   unfolding canonical
-  whole-head e = every_less (as_encoded a) rows_at area_size (omega arith) e
+  whole_head e = every_less (as_encoded a) rows_at area_size (omega arith) e

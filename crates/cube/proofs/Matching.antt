@@ -50,10 +50,10 @@ module _ (s : List (List ℕ)) (all i c r : ℕ) where
       ∙ rw (below k (v / 3) (omega arith), zero-add (v % 3)) (and_assoc (bit all r) (row_matches s i c r k (v / 3)) (bit (cell_at s k (v % 3)) r)))
 
   -- the row matches in every column but i, and in column i what it is offered
-  pub rest-matches : (k v : ℕ) → i < k → (bit (rest_of s all i k v) r && bit (cell_at s i (c + digit_of v (k - suc i))) r) ≡ (bit all r && row_matches s i c r k v)
+  pub rest_matches : (k v : ℕ) → i < k → (bit (rest_of s all i k v) r && bit (cell_at s i (c + digit_of v (k - suc i))) r) ≡ (bit all r && row_matches s i c r k v)
   unfolding rest_of row_matches digit_of
-  rest-matches zero v h = absurd (omega arith)
-  rest-matches (suc k) v h = ⊎_elim here (λ (g : suc i < suc k). earlier g (rest-matches k (v / 3) (omega arith))) (eq-or-lt_of_le h)
+  rest_matches zero v h = absurd (omega arith)
+  rest_matches (suc k) v h = ⊎_elim here (λ (g : suc i < suc k). earlier g (rest_matches k (v / 3) (omega arith))) (eq-or-lt_of_le h)
     where
       here : suc i ≡ suc k → (bit (rest_of s all i (suc k) v) r && bit (cell_at s i (c + digit_of v (suc k - suc i))) r) ≡ (bit all r && row_matches s i c r (suc k) v)
       here q =
@@ -94,12 +94,12 @@ module _ (s : List (List ℕ)) (all n m i c : ℕ) (g : List ℕ) (li : i < n) (
 
   same_bit : (r : ℕ) → (bit all r && bit (lane_rows g l) r) ≡ (bit rest r && bit cell r)
   same_bit r = ⊎_elim
-      (λ (k : r < m). rw (row_in g r l (omega arith), (h.row r k).at l lt) (sym (rest-matches s all i c r n l li)))
-      (λ (k : m ≤ r). let e : bit all r ≡ false = few r k in rw e (sym (rest-matches s all i c r n l li ∙ rw e)))
+      (λ (k : r < m). rw (row_in g r l (omega arith), (h.row r k).at l lt) (sym (rest_matches s all i c r n l li)))
+      (λ (k : m ≤ r). let e : bit all r ≡ false = few r k in rw e (sym (rest_matches s all i c r n l li ∙ rw e)))
       (lt_or_ge r m)
 
-  pub lane-set : bit_and (bit_and all x) (lane_rows g l) ≡ bit_and (bit_and rest x) cell
-  lane-set = bit_ext _ _ (λ r. three all x (lane_rows g l) r ∙ ap (λ (b : Bool). b && bit x r) (same_bit r) ∙ sym (three rest x cell r))
+  pub lane_set : bit_and (bit_and all x) (lane_rows g l) ≡ bit_and (bit_and rest x) cell
+  lane_set = bit_ext _ _ (λ r. three all x (lane_rows g l) r ∙ ap (λ (b : Bool). b && bit x r) (same_bit r) ∙ sym (three rest x cell r))
     where
       three : (a b d r : ℕ) → bit (bit_and (bit_and a b) d) r ≡ ((bit a r && bit d r) && bit b r)
       three a b d r = bit_and_lem (bit_and a b) d r ∙ rw (bit_and_lem a b r) (and_swap (bit a r) (bit b r) (bit d r))

@@ -20,13 +20,13 @@ use Rattle.planes.specs.Words.{bit, Told}
 use Rattle.planes.specs.Planes.{lane_rows, answer_in, answered, or_x, Spread, Closed}
 use Rattle.planes.proofs.Bits.{bit_and_lem, bit_or_lem, bit_xor_lem, bit_past}
 use Rattle.planes.proofs.Planes.{all_lanes, level_told, swap, told_same}
-use Rattle.exchange.proofs.Entered.{out-rank, entry-low}
+use Rattle.exchange.proofs.Entered.{out_rank, entry_low}
 use Rattle.plain.proofs.Sets.{both_in}
 use Rattle.plain.proofs.Alike as alike
 use Rattle.cube.specs.Lanes.{Zeros, Lanes}
 use Rattle.cube.specs.Steps.{Facts, Levels, Stays, Step, step_in, Steps}
 use Rattle.cube.proofs.Shifts.{cut_bit}
-use Rattle.cube.proofs.Matching.{any_column, lane-set}
+use Rattle.cube.proofs.Matching.{any_column, lane_set}
 
 -- ---- the level rows
 
@@ -48,7 +48,7 @@ levels_by s outs all n m i g a b c lm h ha hb hc = record { at = λ t d k o lk l
     told t d k o lk p hp = told_same 4 p _ _
         (λ l lt.
         ap (answer_in outs o)
-        (lane-set s all n m k 0 g lk lm (few t s outs all n m d) (any_lanes s n m i k g h) l lt (cell_at s n o)
+        (lane_set s all n m k 0 g lk lm (few t s outs all n m d) (any_lanes s n m i k g h) l lt (cell_at s n o)
         ∙ ap (λ (x : ℕ). bit_and (bit_and (rest_of s all k n l) (cell_at s n o)) (cell_at s k x)) (zero-add (digit_of l (n - suc k)))))
         (level_told outs g o _ _ p refl hp)
 
@@ -81,30 +81,30 @@ module _ (p : List ℕ) (o still : ℕ) (lo : o < 3) where
     cleared_at (suc (suc (suc zero))) l lm lt = plane 3 l lm lt
     cleared_at (suc (suc (suc (suc m)))) l lm lt = absurd (omega arith)
 
-    on-plane : (q : ℕ) (b : Bool) → ((eqb q o && xor b true) || b) ≡ eqb (cond b o q) o
+    on_plane : (q : ℕ) (b : Bool) → ((eqb q o && xor b true) || b) ≡ eqb (cond b o q) o
     unfolding xor
-    on-plane q true = or-true (eqb q o && false) ∙ sym (eq-eqb o o refl)
-    on-plane q false = or-false (eqb q o && true) ∙ and-true (eqb q o)
+    on_plane q true = or-true (eqb q o && false) ∙ sym (eq-eqb o o refl)
+    on_plane q false = or-false (eqb q o && true) ∙ and-true (eqb q o)
 
-    off-plane : (q m : ℕ) (b : Bool) → (m ≡ o → ⊥) → (eqb q m && xor b true) ≡ eqb (cond b o q) m
+    off_plane : (q m : ℕ) (b : Bool) → (m ≡ o → ⊥) → (eqb q m && xor b true) ≡ eqb (cond b o q) m
     unfolding xor
-    off-plane q m true ne = and-false (eqb q m) ∙ sym (ne_eqb o m (λ e. ne (sym e)))
-    off-plane q m false ne = and-true (eqb q m)
+    off_plane q m true ne = and-false (eqb q m) ∙ sym (ne_eqb o m (λ e. ne (sym e)))
+    off_plane q m false ne = and-true (eqb q m)
 
-    stay-at : (m l : ℕ) → m < 4 → l < 27 → bit (get_or (set cleared o (bit_or (get_or cleared o 0) still)) m 0) l ≡ eqb (cond (bit still l) o (f l)) m
-    stay-at m l lm lt = go (eqb m o) refl
+    stay_at : (m l : ℕ) → m < 4 → l < 27 → bit (get_or (set cleared o (bit_or (get_or cleared o 0) still)) m 0) l ≡ eqb (cond (bit still l) o (f l)) m
+    stay_at m l lm lt = go (eqb m o) refl
       where
         go : (b : Bool) → eqb m o ≡ b → bit (get_or (set cleared o (bit_or (get_or cleared o 0) still)) m 0) l ≡ eqb (cond (bit still l) o (f l)) m
         go true e =
             let z : m ≡ o = eqb-true m o e in
             rw (z, get_or-set_same cleared o (bit_or (get_or cleared o 0) still) 0 (omega arith))
-            (bit_or_lem (get_or cleared o 0) still l ∙ rw (cleared_at o l (omega arith) lt) (on-plane (f l) (bit still l)))
+            (bit_or_lem (get_or cleared o 0) still l ∙ rw (cleared_at o l (omega arith) lt) (on_plane (f l) (bit still l)))
         go false e =
             rw (get_or-set_other cleared o m (bit_or (get_or cleared o 0) still) 0 (eqb-false m o e))
-            (cleared_at m l lm lt ∙ off-plane (f l) m (bit still l) (eqb-false m o e))
+            (cleared_at m l lm lt ∙ off_plane (f l) m (bit still l) (eqb-false m o e))
 
   pub stays_by : Stays p o still (set cleared o (bit_or (get_or cleared o 0) still))
-  stays_by = record { told = λ f t. record { at = λ m l lm lt. stay-at f t m l lm lt } }
+  stays_by = record { told = λ f t. record { at = λ m l lm lt. stay_at f t m l lm lt } }
 
 pub step_by : (outs g : List ℕ) (o set still : ℕ) (p q r : List ℕ) → Stays p o still q → Closed outs g o set q r → Step outs g o set still p r
 step_by outs g o set still p q r hs hc = record { told = λ f t. hc.told _ (hs.told f t) }
@@ -152,14 +152,14 @@ module _ (s : List (List ℕ)) (outs : List ℕ) (all n m i a o w z : ℕ) (g : 
     abbrev here : ℕ
     here = bit_and (rest_of s all i n l) (cell_at s n o)
 
-    still-at : bit still l ≡ eqb a digit
-    still-at = cut_bit (z * 2 ^ (w * a)) l lt ∙ hz.at a l la lt ∙ rw (ew, ← digit_is l (n - suc i)) (eqb_comm digit a)
+    still_at : bit still l ≡ eqb a digit
+    still_at = cut_bit (z * 2 ^ (w * a)) l lt ∙ hz.at a l la lt ∙ rw (ew, ← digit_is l (n - suc i)) (eqb_comm digit a)
 
-    edge-set : bit_and (bit_and (bit_and all (cell_at s n o)) edges) (lane_rows g l) ≡ bit_and here (cell_at s i (3 + (a * 3 + digit)))
-    edge-set =
+    edge_set : bit_and (bit_and (bit_and all (cell_at s n o)) edges) (lane_rows g l) ≡ bit_and here (cell_at s i (3 + (a * 3 + digit)))
+    edge_set =
         let e : 3 + a * 3 + digit ≡ 3 + (a * 3 + digit) = omega arith in
         swap (bit_and all (cell_at s n o)) edges (lane_rows g l)
-        ∙ ap (λ (x : ℕ). bit_and x edges) (lane-set s all n m i (3 + a * 3) g li lm (few t s outs all n m d) hg l lt (cell_at s n o))
+        ∙ ap (λ (x : ℕ). bit_and x edges) (lane_set s all n m i (3 + a * 3) g li lm (few t s outs all n m d) hg l lt (cell_at s n o))
         ∙ alike.stays (bit_and here (cell_at s i (3 + a * 3 + digit))) edges (λ k q. in_edges s i (3 + a * 3) digit k (digit_low l (n - suc i)) (both_in here (cell_at s i (3 + a * 3 + digit)) k q).1)
         ∙ ap (λ (x : ℕ). bit_and here (cell_at s i x)) e
 
@@ -167,9 +167,9 @@ module _ (s : List (List ℕ)) (outs : List ℕ) (all n m i a o w z : ℕ) (g : 
     unfolding answered entry_of out_by answer_or
     step_is =
         let k : t.inputs ≡ n = sym (d.given i i li li).inputs_are in
-        rw (still-at, edge-set, k)
+        rw (still_at, edge_set, k)
         (chosen (eqb a digit) o (answer_in outs o (bit_and here (cell_at s i digit))) (answer_in outs o (bit_and here (cell_at s i (3 + (a * 3 + digit))))) lo
-        ∙ ap (λ (x : ℕ). cond (eqb a digit) o x) (sym (out-rank t s outs n i i (d.given i i li li) o lo (rest_of s all i n l) (cell_at s i digit) (cell_at s i (3 + (a * 3 + digit))))))
+        ∙ ap (λ (x : ℕ). cond (eqb a digit) o x) (sym (out_rank t s outs n i i (d.given i i li li) o lo (rest_of s all i n l) (cell_at s i digit) (cell_at s i (3 + (a * 3 + digit))))))
 
   pub stepped_by : (e x : ℕ) → e ≡ a * 3 + o → x ≡ edges → Step outs g o (bit_and (bit_and all (cell_at s n o)) x) still (get_or lev o []) p → Stepped s outs all n m i e p
   stepped_by e x q ex hx = record {
@@ -184,7 +184,7 @@ pub steps_by : (s : List (List ℕ)) (outs : List ℕ) (all n m i : ℕ) (f : Li
 steps_by s outs all n m i f li h = record {
   tell = λ t d. record {
     at = λ a o la lo. go t d a o (a * 3 + o) la lo refl;
-    low = λ a o l lo. entry-low t s outs n i i (d.given i i li li) o lo i _ _ a;
+    low = λ a o l lo. entry_low t s outs n i i (d.given i i li li) o lo i _ _ a;
   };
 }
   where

@@ -17,7 +17,7 @@ use Rattle.orders.specs.Digits.{digit_of, put_digit}
 use Rattle.orders.proofs.Digits.{digit_is, digit_low, digit_le, put_is, put_lt}
 use Rattle.memo.specs.Rows.{all_rows, cell_at, rest_of}
 use Rattle.memo.specs.Pair.{others_of, first_then, second_then}
-use Rattle.memo.proofs.Others.{others-comm, others_put, rest-others, digit_same, digit_other}
+use Rattle.memo.proofs.Others.{others_comm, others_put, rest_others, digit_same, digit_other}
 use Rattle.planes.specs.Words.{bit}
 use Rattle.exchange.specs.Lanes.{Agree, Given}
 use Rattle.exchange.specs.Pairs.{Tells}
@@ -53,10 +53,10 @@ module _ (t : Table) (s : List (List ℕ)) (all n : ℕ) where
   unfolding first_then
   one_way i j li lj ne a b o l lb =
       let first : rest_of s all i n (put_digit b (n - suc j) l) ≡ bit_and (others_of s all i j n l) (cell_at s j b) =
-      rest-others s all i j n (put_digit b (n - suc j) l) ne lj
+      rest_others s all i j n (put_digit b (n - suc j) l) ne lj
       ∙ rw (others_put s all i j j n l b (rw (eq-eqb j j refl) (or-true (eqb j i))) lb lj, digit_same b (n - suc j) l lb) in
       let then : rest_of s all j n l ≡ bit_and (others_of s all i j n l) (cell_at s i (digit_of l (n - suc i))) =
-      rest-others s all j i n l (λ e. ne (sym e)) li ∙ rw (others-comm s all j i n l) in
+      rest_others s all j i n l (λ e. ne (sym e)) li ∙ rw (others_comm s all j i n l) in
       rw (first, then, digit_other b (n - suc j) (n - suc i) l lb (λ e. ne (omega arith)))
 
   turned : (i j rest a b x y o : ℕ) → first_then t s j i rest b a y x o ≡ second_then t s i j rest a b x y o
@@ -69,13 +69,13 @@ module _ (t : Table) (s : List (List ℕ)) (all n : ℕ) where
         ≡ eqb (first_then t s i j (others_of s all i j n l) a b (digit_of l (n - suc i)) (digit_of l (n - suc j)) o) (second_then t s i j (others_of s all i j n l) a b (digit_of l (n - suc i)) (digit_of l (n - suc j)) o)
     unfolding same_in
     same_is a b o l la lb =
-        rw (put_by_lem w (n - suc j) b l ew, put_by_lem v (n - suc i) a l ev, one_way i j li lj ne a b o l lb, one_way j i lj li (λ e. ne (sym e)) b a o l la, others-comm s all j i n l)
+        rw (put_by_lem w (n - suc j) b l ew, put_by_lem v (n - suc i) a l ev, one_way i j li lj ne a b o l lb, one_way j i lj li (λ e. ne (sym e)) b a o l la, others_comm s all j i n l)
         (ap (eqb (first_then t s i j (others_of s all i j n l) a b (digit_of l (n - suc i)) (digit_of l (n - suc j)) o)) (turned i j (others_of s all i j n l) a b (digit_of l (n - suc i)) (digit_of l (n - suc j)) o))
 
     module _ (r : Bool) (ln : n ≤ 3) (e : r ≡ every 27 (λ (k : ℕ). every 27 (same_in (step_in t s all n i) (step_in t s all n j) v w (k / 9) (k / 3 % 3) (k % 3)))) where
-      lane-agrees : r ≡ true → (a b o l : ℕ) → a < 3 → b < 3 → o < 3 → l < 27 →
+      lane_agrees : r ≡ true → (a b o l : ℕ) → a < 3 → b < 3 → o < 3 → l < 27 →
           first_then t s i j (others_of s all i j n l) a b (digit_of l (n - suc i)) (digit_of l (n - suc j)) o ≡ second_then t s i j (others_of s all i j n l) a b (digit_of l (n - suc i)) (digit_of l (n - suc j)) o
-      lane-agrees h a b o l la lb lo lt = go ((a * 3 + b) * 3 + o) refl
+      lane_agrees h a b o l la lb lo lt = go ((a * 3 + b) * 3 + o) refl
         where
           go : (k : ℕ) → k ≡ (a * 3 + b) * 3 + o →
               first_then t s i j (others_of s all i j n l) a b (digit_of l (n - suc i)) (digit_of l (n - suc j)) o ≡ second_then t s i j (others_of s all i j n l) a b (digit_of l (n - suc i)) (digit_of l (n - suc j)) o
@@ -99,7 +99,7 @@ module _ (t : Table) (s : List (List ℕ)) (all n : ℕ) where
             others_put s all i j j n (put_digit x (n - suc i) (v % 27)) y (rw (eq-eqb j j refl) (or-true (eqb j i))) ly lj
             ∙ others_put s all i j i n (v % 27) x (rw (eq-eqb i i refl)) lx li
             ∙ others_same s all i j n (v % 27) v (λ p lp. low_digits v p (omega arith)) in
-            rw (er, ex, ey) at (lane-agrees h a b o l la lb lo lt);
+            rw (er, ex, ey) at (lane_agrees h a b o l la lb lo lt);
       }
 
       whole : ((v : ℕ) → Agree t s i j (others_of s all i j n v)) → r ≡ true

@@ -68,14 +68,14 @@ zeros_nine = zeros_by 9 511 refl refl refl
 
 -- the words as the code shifts them
 module _ (w z : ℕ) (h : Zeros w z) (l : ℕ) (lt : l < 27) where
-  pub first-digit : bit z l ≡ eqb (l / w % 3) 0
-  first-digit = rw (mul-zero w, mul-one z) at (h.at 0 l (omega arith) lt)
+  pub first_digit : bit z l ≡ eqb (l / w % 3) 0
+  first_digit = rw (mul-zero w, mul-one z) at (h.at 0 l (omega arith) lt)
 
   pub second_digit : bit (z * 2 ^ w % 2 ^ 32) l ≡ eqb (l / w % 3) 1
   second_digit = cut_bit (z * 2 ^ w) l lt ∙ (rw (mul-one w) at (h.at 1 l (omega arith) lt))
 
-  pub third-digit : bit (z * 2 ^ (w + w) % 2 ^ 32) l ≡ eqb (l / w % 3) 2
-  third-digit = let e : w * 2 ≡ w + w = omega arith in cut_bit (z * 2 ^ (w + w)) l lt ∙ (rw e at (h.at 2 l (omega arith) lt))
+  pub third_digit : bit (z * 2 ^ (w + w) % 2 ^ 32) l ≡ eqb (l / w % 3) 2
+  third_digit = let e : w * 2 ≡ w + w = omega arith in cut_bit (z * 2 ^ (w + w)) l lt ∙ (rw e at (h.at 2 l (omega arith) lt))
 
 pub column_by : (s : List (List ℕ)) (k w c r z p q v : ℕ) → Zeros w z →
     p ≡ cond (bit (cell_at s k c) r) z 0 → q ≡ cond (bit (cell_at s k (c + 1)) r) (z * 2 ^ w % 2 ^ 32) 0 → v ≡ cond (bit (cell_at s k (c + 2)) r) (z * 2 ^ (w + w) % 2 ^ 32) 0 →
@@ -85,7 +85,7 @@ column_by s k w c r z p q v h ep eq ev = record {
       let e : p ≡ cond (bit (cell_at s k (c + 0)) r) z 0 = rw (add-zero c) ep in
       rw (e, eq, ev)
       (digit_words (λ (d : ℕ). bit (cell_at s k (c + d)) r) z (z * 2 ^ w % 2 ^ 32) (z * 2 ^ (w + w) % 2 ^ 32) (l / w % 3) l (omega arith)
-      (first-digit w z h l lt) (second_digit w z h l lt) (third-digit w z h l lt));
+      (first_digit w z h l lt) (second_digit w z h l lt) (third_digit w z h l lt));
 }
 
 -- ---- a digit that is replaced
@@ -100,19 +100,19 @@ module _ (p w d z : ℕ) (h : Zeros w z) (l : ℕ) (lt : l < 27) where
   term : (k : ℕ) → k < 3 → bit (q * 2 ^ (w * k)) l ≡ (eqb (l / w % 3) k && from k)
   term k lk = up_and z (p / 2 ^ (w * d)) (w * k) l ∙ rw (h.at k l lk lt)
 
-  first-term : bit q l ≡ (eqb (l / w % 3) 0 && from 0)
-  first-term = let t : bit (q * 2 ^ (w * 0)) l ≡ (eqb (l / w % 3) 0 && from 0) = term 0 (omega arith) in ap (λ (x : ℕ). bit x l) (sym (rw (mul-zero w) (mul-one q))) ∙ t
+  first_term : bit q l ≡ (eqb (l / w % 3) 0 && from 0)
+  first_term = let t : bit (q * 2 ^ (w * 0)) l ≡ (eqb (l / w % 3) 0 && from 0) = term 0 (omega arith) in ap (λ (x : ℕ). bit x l) (sym (rw (mul-zero w) (mul-one q))) ∙ t
 
-  second-term : bit (q * 2 ^ w % 2 ^ 32) l ≡ (eqb (l / w % 3) 1 && from 1)
-  second-term = cut_bit (q * 2 ^ w) l lt ∙ ap (λ (x : ℕ). bit (q * 2 ^ x) l) (sym (mul-one w)) ∙ term 1 (omega arith)
+  second_term : bit (q * 2 ^ w % 2 ^ 32) l ≡ (eqb (l / w % 3) 1 && from 1)
+  second_term = cut_bit (q * 2 ^ w) l lt ∙ ap (λ (x : ℕ). bit (q * 2 ^ x) l) (sym (mul-one w)) ∙ term 1 (omega arith)
 
-  third-term : bit (q * 2 ^ (w + w) % 2 ^ 32) l ≡ (eqb (l / w % 3) 2 && from 2)
-  third-term = let e : w + w ≡ w * 2 = omega arith in cut_bit (q * 2 ^ (w + w)) l lt ∙ ap (λ (x : ℕ). bit (q * 2 ^ x) l) e ∙ term 2 (omega arith)
+  third_term : bit (q * 2 ^ (w + w) % 2 ^ 32) l ≡ (eqb (l / w % 3) 2 && from 2)
+  third_term = let e : w + w ≡ w * 2 = omega arith in cut_bit (q * 2 ^ (w + w)) l lt ∙ ap (λ (x : ℕ). bit (q * 2 ^ x) l) e ∙ term 2 (omega arith)
 
   copied_at : bit (bit_or q (bit_or (q * 2 ^ w % 2 ^ 32) (q * 2 ^ (w + w) % 2 ^ 32))) l ≡ bit p (put_by w d l)
   copied_at =
       bit_or_lem q (bit_or (q * 2 ^ w % 2 ^ 32) (q * 2 ^ (w + w) % 2 ^ 32)) l
-      ∙ rw (bit_or_lem (q * 2 ^ w % 2 ^ 32) (q * 2 ^ (w + w) % 2 ^ 32) l, first-term, second-term, third-term)
+      ∙ rw (bit_or_lem (q * 2 ^ w % 2 ^ 32) (q * 2 ^ (w + w) % 2 ^ 32) l, first_term, second_term, third_term)
       (picks (l / w % 3) from (omega arith) ∙ down_bit p (w * d) (l - w * (l / w % 3)))
 
 pub copied_by : (p w d z q : ℕ) → Zeros w z → q ≡ bit_and z (p / 2 ^ (w * d)) → Copied p w d (bit_or q (bit_or (q * 2 ^ w % 2 ^ 32) (q * 2 ^ (w + w) % 2 ^ 32)))

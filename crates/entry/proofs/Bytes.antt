@@ -1,11 +1,11 @@
 -- Each byte of a field by its place. Assumes nothing.
 use mathlib.Core.Path.{◌≡◌, refl, sym, ap, ◌∙◌}
 use mathlib.Core.List.{List, [], ◌∷◌, map}
-use Prim.Native.Nat.{ℕ, zero, suc, ◌+◌, ◌-◌, ◌≤◌, ◌<◌}
+use Prim.Native.Nat.{ℕ, zero, suc, ◌+◌, ◌≤◌, ◌<◌}
 use native.Mathlib.Omega.{arith}
 use lib.ListN.{length, get_or, length-map, get_or-eq_default}
 use Rattle.base.specs.Listed.{listed}
-use Rattle.base.proofs.Listed.{listed-length, listed_at}
+use Rattle.base.proofs.Listed.{listed_length, listed_at}
 use Rattle.value.specs.Value.{byte_of}
 use Rattle.value.specs.declared.Ternary.{Ternary}
 use Rattle.value.specs.declared.Ternary.TheVariants.{V0}
@@ -31,10 +31,10 @@ map_past f l k h = get_or-eq_default (map f l) 0 (omega (arith, length-map l f))
 
 pub order_is : (f : ℕ → ℕ) (n k x r : ℕ) → r ≡ digit_of x → k < n → f k ≡ x → r ≡ get_or (map digit_of (listed f n)) k 0
 order_is f n k x r e h g =
-    e ∙ ap digit_of (sym (listed_at f n k 0 h ∙ g)) ∙ sym (map_at digit_of (listed f n) k 0 (omega (arith, listed-length f n)))
+    e ∙ ap digit_of (sym (listed_at f n k 0 h ∙ g)) ∙ sym (map_at digit_of (listed f n) k 0 (omega (arith, listed_length f n)))
 
 pub order_past : (f : ℕ → ℕ) (n k : ℕ) → n ≤ k → 0 ≡ get_or (map digit_of (listed f n)) k 0
-order_past f n k h = sym (map_past digit_of (listed f n) k (omega (arith, listed-length f n)))
+order_past f n k h = sym (map_past digit_of (listed f n) k (omega (arith, listed_length f n)))
 
 -- ---- values of a vector
 
@@ -49,23 +49,23 @@ module _ (n : ℕ) (w : Witness) (k : ℕ) (h : k < n) where
   one_more : k + 1 ≡ suc k
   one_more = omega arith
 
-  pub now-at-second : k + 1 ≡ w.second → w.second_now ≡ get_or (now n w) k V0
-  now-at-second e =
+  pub now_at_second : k + 1 ≡ w.second → w.second_now ≡ get_or (now n w) k V0
+  now_at_second e =
       let q : w.second ≡ suc k = omega arith in
       sym
       (ap (at (now n w)) (sym q)
       ∙ at_same (put (vector_of n w.previous) w.first w.first_now) w.second w.second_now (omega arith) (omega (arith, long)))
 
-  pub now-at-first : (k + 1 ≡ w.second → ⊥) → k + 1 ≡ w.first → w.first_now ≡ get_or (now n w) k V0
-  now-at-first a e =
+  pub now_at_first : (k + 1 ≡ w.second → ⊥) → k + 1 ≡ w.first → w.first_now ≡ get_or (now n w) k V0
+  now_at_first a e =
       let q : w.first ≡ suc k = omega arith in
       sym
       (at_other (put (vector_of n w.previous) w.first w.first_now) w.second (suc k) w.second_now (λ z. a (omega arith))
       ∙ ap (at (put (vector_of n w.previous) w.first w.first_now)) (sym q)
       ∙ at_same (vector_of n w.previous) w.first w.first_now (omega arith) (omega (arith, length_vector_of n w.previous)))
 
-  pub now-at-other : (k + 1 ≡ w.second → ⊥) → (k + 1 ≡ w.first → ⊥) → get_or (vector_of n w.previous) k V0 ≡ get_or (now n w) k V0
-  now-at-other a b =
+  pub now_at_other : (k + 1 ≡ w.second → ⊥) → (k + 1 ≡ w.first → ⊥) → get_or (vector_of n w.previous) k V0 ≡ get_or (now n w) k V0
+  now_at_other a b =
       sym
       (at_other (put (vector_of n w.previous) w.first w.first_now) w.second (suc k) w.second_now (λ z. a (omega arith))
       ∙ at_other (vector_of n w.previous) w.first (suc k) w.first_now (λ z. b (omega arith)))

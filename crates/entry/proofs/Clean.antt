@@ -1,14 +1,14 @@
 -- No field of a verdict that fits holds a space, and no entry an LF; an entry's length. Assumes nothing.
-use mathlib.Core.Path.{◌≡◌, refl, sym, ap, ◌∙◌}
-use mathlib.Core.Logic.{◌≢◌, ◌⊎◌, inl, inr, ⊎_elim}
-use mathlib.Core.Bool.{Bool, true, false, cond, not, ◌&&◌, ◌||◌}
+use mathlib.Core.Path.{◌≡◌, sym, ◌∙◌}
+use mathlib.Core.Logic.{⊎_elim}
+use mathlib.Core.Bool.{Bool, true, false, cond, not, ◌&&◌}
 use mathlib.Core.List.{List, [], ◌∷◌, ◌++◌, map}
-use Prim.Native.Nat.{ℕ, zero, suc, ◌+◌, ◌*◌, ◌/◌, ◌≤◌, ◌<◌}
+use Prim.Native.Nat.{ℕ, zero, suc, ◌/◌, ◌≤◌, ◌<◌}
 use Prim.Native.Char.{code}
 use native.Mathlib.Omega.{arith}
 use borrow.Author.Tests.{lt-leb, ne_eqb}
-use lib.Dec.{ltb, leb, eqb}
-use lib.ListN.{length, get_or}
+use lib.Dec.{ltb, leb}
+use lib.ListN.{length}
 use Rattle.base.proofs.Bools.{both, clash, lt_or_ge}
 use Rattle.value.specs.Value.{byte_of}
 use Rattle.value.specs.declared.Ternary.{Ternary}
@@ -16,11 +16,10 @@ use Rattle.value.specs.declared.Ternary.TheVariants.{V0, V1, Vx}
 use Rattle.text.specs.Bytes.{starts, in_name}
 use Rattle.text.specs.Words.{all_in_name, is_name, name_fits, member, keywords}
 use Rattle.verdict.specs.Verdict as words
-use Rattle.verdict.specs.Meaning.{Fits, fits_independent, fits_dependent}
 use Rattle.files.specs.Parts.{Without, join}
 use Rattle.files.specs.Files.{LF}
 use Rattle.files.proofs.Parts.{Clean, none, more}
-use Rattle.entry.specs.Entry.{space, digit_of, decimal, witness_fields, finding_fields, fields, trailer, entry, Fitting}
+use Rattle.entry.specs.Entry.{space, digit_of, decimal, finding_fields, fields, trailer, entry}
 
 -- bytes of which none is below m
 pub data From (m : ℕ) : List ℕ → Type 0 where

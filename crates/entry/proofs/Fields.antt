@@ -9,7 +9,7 @@ use borrow.Author.Tests.{lt-ltb, le-ltb}
 use lib.ListN.{length, get_or, length-append, length-map, get_or-eq_default}
 use lib.Dec.{ltb}
 use Rattle.base.specs.Listed.{listed}
-use Rattle.base.proofs.Listed.{listed-length}
+use Rattle.base.proofs.Listed.{listed_length}
 use Rattle.verdict.specs.declared.Witness.{Witness}
 use Rattle.verdict.specs.declared.Finding.{Finding}
 use Rattle.verdict.specs.declared.Finding.TheVariants.{Independent, Dependent}
@@ -46,20 +46,20 @@ trailer_past s k h = sym (get_or-eq_default (trailer s ++ (LF ∷ [])) 0 {n = k}
 -- ---- lengths of a witness's fields
 
 module _ (n : ℕ) (w : Witness) where
-  order-long : (f : ℕ → ℕ) → n ≡ length (map digit_of (listed f n))
-  order-long f = sym (length-map (listed f n) digit_of ∙ listed-length f n)
+  order_long : (f : ℕ → ℕ) → n ≡ length (map digit_of (listed f n))
+  order_long f = sym (length-map (listed f n) digit_of ∙ listed_length f n)
 
-  pub length-1 : (m : ℕ) → m ≡ 1 → n ≡ length (get_or (witness_fields (drafted n w)) m [])
-  length-1 m e = rw e (sym (length-map (before n w) byte_of ∙ length_vector_of n w.previous))
+  pub length_1 : (m : ℕ) → m ≡ 1 → n ≡ length (get_or (witness_fields (drafted n w)) m [])
+  length_1 m e = rw e (sym (length-map (before n w) byte_of ∙ length_vector_of n w.previous))
 
-  pub length-2 : (m : ℕ) → m ≡ 2 → n ≡ length (get_or (witness_fields (drafted n w)) m [])
-  length-2 m e = rw e (sym (length-map (now n w) byte_of ∙ now_length n w))
+  pub length_2 : (m : ℕ) → m ≡ 2 → n ≡ length (get_or (witness_fields (drafted n w)) m [])
+  length_2 m e = rw e (sym (length-map (now n w) byte_of ∙ now_length n w))
 
-  pub length-4 : (m : ℕ) → m ≡ 4 → n ≡ length (get_or (witness_fields (drafted n w)) m [])
-  length-4 m e = rw e (order-long (order_at w.first w.second w.first w.second))
+  pub length_4 : (m : ℕ) → m ≡ 4 → n ≡ length (get_or (witness_fields (drafted n w)) m [])
+  length_4 m e = rw e (order_long (order_at w.first w.second w.first w.second))
 
-  pub length-6 : (m : ℕ) → m ≡ 6 → n ≡ length (get_or (witness_fields (drafted n w)) m [])
-  length-6 m e = rw e (order-long (order_at w.first w.second w.second w.first))
+  pub length_6 : (m : ℕ) → m ≡ 6 → n ≡ length (get_or (witness_fields (drafted n w)) m [])
+  length_6 m e = rw e (order_long (order_at w.first w.second w.second w.first))
 
 -- ---- past the last field
 
@@ -147,8 +147,8 @@ witness_length n w a b c d =
 pub draft_length : (n : ℕ) (w : Witness) → length (join space (witness_fields (drafted n w))) ≡ 4 * n + 12
 draft_length n w =
     witness_length n (drafted n w) (length_vector_of n w.previous) (now_length n w)
-    (listed-length (order_at w.first w.second w.first w.second) n)
-    (listed-length (order_at w.first w.second w.second w.first) n)
+    (listed_length (order_at w.first w.second w.first w.second) n)
+    (listed_length (order_at w.first w.second w.second w.first) n)
 
 -- what a verdict that fits takes
 pub line_short : (h : Handed) (a b : ℕ) → fits_layout h ≡ true → a ≡ length (decimal h.inputs) → b ≡ length (decimal h.rows) → h.finding ≡ Independent →

@@ -1,26 +1,25 @@
 -- What fits by the test is what fits in document 01's words; the longest entry has 93 bytes. Assumes nothing.
-use mathlib.Core.Path.{◌≡◌, refl, sym, ap, ◌∙◌}
+use mathlib.Core.Path.{◌≡◌, sym, ap, ◌∙◌}
 use mathlib.Core.Bool.{true}
 use mathlib.Core.List.{List, [], ◌∷◌, ◌++◌}
-use Prim.Native.Nat.{ℕ, suc, ◌+◌, ◌*◌, ◌≤◌}
+use Prim.Native.Nat.{ℕ, ◌+◌, ◌*◌, ◌≤◌}
 use native.Mathlib.Omega.{arith}
 use borrow.Author.Tests.{lt-ltb}
 use lib.ListN.{length, length-append}
 use Rattle.base.specs.Limits.{input_limit}
 use Rattle.verdict.specs.Verdict as words
-use Rattle.verdict.specs.Meaning.{meant, Disagrees, Fits, fits_independent, fits_dependent, SoundFinding}
+use Rattle.verdict.specs.Meaning.{meant, Fits, fits_independent, fits_dependent, SoundFinding}
 use Rattle.verdict.specs.declared.Finding.{Finding}
-use Rattle.verdict.proofs.Meaning.{sound_fits, fits_meant, meant_once}
-use Rattle.orders.specs.Pairs.{others, pair_order}
-use Rattle.base.proofs.Listed.{listed-length}
+use Rattle.verdict.proofs.Meaning.{sound_fits, fits_meant}
+use Rattle.base.proofs.Listed.{listed_length}
 use Rattle.files.specs.Files.{LF}
 use Rattle.files.specs.Parts.{join}
-use Rattle.entry.specs.Entry.{space, decimal, finding_fields, witness_fields, fields, trailer, entry, Fitting}
+use Rattle.entry.specs.Entry.{space, decimal, finding_fields, entry, Fitting}
 use Rattle.handed.specs.Handed.{Handed, verdict_of, fits_layout}
 use Rattle.entry.specs.Draft.{order_at}
 use Rattle.entry.proofs.Fields.{entry_length, witness_length, decimal_few}
 use Rattle.handed.proofs.Fit.{Parts, parts_of, of_parts, name_short}
-use Rattle.entry.proofs.Orders.{first-order, second-order}
+use Rattle.entry.proofs.Orders.{first_order, second_order}
 
 -- ---- the test and the words
 
@@ -61,8 +60,8 @@ fitting_handed v f =
 finding_long : (n : ℕ) (f : words.Finding) → n ≤ input_limit → Fits n f → length (join space (finding_fields f)) ≤ 4 * input_limit + 12
 finding_long n f h fits_independent = omega arith
 finding_long n f h (fits_dependent {w} i j d) =
-    let a : length w.order1 ≡ n = ap length (d.order_1 ∙ sym (first-order n i j d.from d.apart d.to)) ∙ listed-length (order_at i j i j) n in
-    let b : length w.order2 ≡ n = ap length (d.order_2 ∙ sym (second-order n i j d.from d.apart d.to)) ∙ listed-length (order_at i j j i) n in
+    let a : length w.order1 ≡ n = ap length (d.order_1 ∙ sym (first_order n i j d.from d.apart d.to)) ∙ listed_length (order_at i j i j) n in
+    let b : length w.order2 ≡ n = ap length (d.order_2 ∙ sym (second_order n i j d.from d.apart d.to)) ∙ listed_length (order_at i j j i) n in
     omega (arith, witness_length n w d.prev_long d.cur_long a b)
 
 -- inputs take one digit

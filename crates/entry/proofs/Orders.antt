@@ -1,17 +1,16 @@
 -- The two orders of a witness, by place. Assumes nothing.
 use mathlib.Core.Path.{◌≡◌, refl, sym, ap, ap₂, ◌∙◌}
-use mathlib.Core.Logic.{◌≢◌, ite, ◌⊎◌, inl, inr, ⊎_elim}
-use mathlib.Core.Bool.{Bool, true, false, cond}
-use mathlib.Core.List.{List, [], ◌∷◌, ◌++◌, append_assoc}
+use mathlib.Core.Logic.{◌≢◌, ite, ⊎_elim}
+use mathlib.Core.List.{List, [], ◌∷◌, ◌++◌}
 use Prim.Native.Nat.{ℕ, zero, suc, ◌+◌, ◌-◌, ◌≤◌, ◌<◌}
 use native.Mathlib.Nat.{add-zero}
 use native.Mathlib.Decide.{ℕ_discrete}
 use native.Mathlib.Omega.{arith}
-use borrow.Author.Tests.{eq-eqb, ne_eqb, lt-ltb, le-ltb}
+use borrow.Author.Tests.{ne_eqb, lt-ltb, le-ltb}
 use lib.ListN.{length, get_or, length-append, get_or-append}
 use lib.Seq.{get_or-append-add}
 use Rattle.base.specs.Listed.{listed}
-use Rattle.base.proofs.Listed.{listed-is}
+use Rattle.base.proofs.Listed.{listed_is}
 use Rattle.base.proofs.Bools.{lt_or_ge}
 use Rattle.orders.specs.Pairs.{rise, without, others, pair_order}
 use Rattle.verdict.specs.Verdict as words
@@ -95,9 +94,9 @@ module _ (n i j : ℕ) (from : 1 ≤ i) (apart : i < j) (to : j ≤ n) where
       ∙ rise_append 1 (i - 1) (suc ((j - i - 1) + suc (n - j)))
       ∙ rw f (ap (λ (l : List ℕ). rise 1 (i - 1) ++ (i ∷ l)) (rise_append (suc i) (j - i - 1) (suc (n - j)) ∙ rw g))
 
-  others-first : without i (without j (rise 1 n)) ≡ low ++ (mid ++ high)
+  others_first : without i (without j (rise 1 n)) ≡ low ++ (mid ++ high)
   unfolding low mid high
-  others-first =
+  others_first =
       rw (
         whole,
         without_append j low (i ∷ (mid ++ (j ∷ high))),
@@ -115,9 +114,9 @@ module _ (n i j : ℕ) (from : 1 ≤ i) (apart : i < j) (to : j ≤ n) where
         without_rise i (suc j) (n - j) (λ k p q e. omega arith),
       )
 
-  others-second : without j (without i (rise 1 n)) ≡ low ++ (mid ++ high)
+  others_second : without j (without i (rise 1 n)) ≡ low ++ (mid ++ high)
   unfolding low mid high
-  others-second =
+  others_second =
       rw (
         whole,
         without_append i low (i ∷ (mid ++ (j ∷ high))),
@@ -179,20 +178,20 @@ module _ (n i j : ℕ) (from : 1 ≤ i) (apart : i < j) (to : j ≤ n) where
       (lt_or_ge (suc (suc m)) j))
       (lt_or_ge (suc m) i))
 
-  listed-order : (a b : ℕ) (l : List ℕ) → l ≡ low ++ (mid ++ high) → listed (order_at i j a b) n ≡ a ∷ b ∷ l
-  listed-order a b l e = rw e (listed-is (order_at i j a b) n (a ∷ b ∷ (low ++ (mid ++ high))) 0 (omega (arith, size)) (place a b))
+  listed_order : (a b : ℕ) (l : List ℕ) → l ≡ low ++ (mid ++ high) → listed (order_at i j a b) n ≡ a ∷ b ∷ l
+  listed_order a b l e = rw e (listed_is (order_at i j a b) n (a ∷ b ∷ (low ++ (mid ++ high))) 0 (omega (arith, size)) (place a b))
 
-  pub first-order : listed (order_at i j i j) n ≡ pair_order n i j
-  first-order = listed-order i j (others n i j) others-first
+  pub first_order : listed (order_at i j i j) n ≡ pair_order n i j
+  first_order = listed_order i j (others n i j) others_first
 
-  pub second-order : listed (order_at i j j i) n ≡ pair_order n j i
-  second-order = listed-order j i (others n j i) others-second
+  pub second_order : listed (order_at i j j i) n ≡ pair_order n j i
+  second_order = listed_order j i (others n j i) others_second
 
 -- ---- where a verdict fits, the draft is what is meant
 
 pub draft_shown : (n : ℕ) (w : Witness) → Sound n w → drafted n w ≡ shown n w
 unfolding shown
-draft_shown n w s = rw (first-order n w.first w.second s.from s.apart s.to, second-order n w.first w.second s.from s.apart s.to)
+draft_shown n w s = rw (first_order n w.first w.second s.from s.apart s.to, second_order n w.first w.second s.from s.apart s.to)
 
 pub draft_meant : (n : ℕ) (f : Finding) → SoundFinding n f → draft_finding n f ≡ meant n f
 unfolding meant

@@ -2,7 +2,7 @@
 use mathlib.Core.Path.{◌≡◌, refl, sym, ap, ◌∙◌}
 use mathlib.Core.Logic.{◌≢◌}
 use mathlib.Core.Bool.{Bool, true, false, cond}
-use Prim.Native.Nat.{ℕ, suc, ◌-◌}
+use Prim.Native.Nat.{ℕ, suc}
 use native.Mathlib.Omega.{arith}
 use lib.ListN.{length}
 use Rattle.verdict.specs.Verdict as words
@@ -26,17 +26,17 @@ module _ (h : Handed) (w : ℕ) (size : w ≡ cond (fits_layout h) (suc (length 
   so false e z = absurd (z (settle false e))
 
   -- no length: the verdict does not fit
-  pub unfit-of : w ≡ 0 → fits_layout h ≡ false
-  unfit-of z = not_so (fits_layout h) refl z
+  pub unfit_of : w ≡ 0 → fits_layout h ≡ false
+  unfit_of z = not_so (fits_layout h) refl z
 
   pub fit_of : w ≢ 0 → fits_layout h ≡ true
   fit_of z = so (fits_layout h) refl z
 
-  pub drafted-of : w ≢ 0 → draft h ≡ verdict_of h
-  drafted-of z = draft_verdict h (parts_of h (fit_of z)).found
+  pub drafted_of : w ≢ 0 → draft h ≡ verdict_of h
+  drafted_of z = draft_verdict h (parts_of h (fit_of z)).found
 
   -- else it is the length of the entry with its LF, wherever it starts
   pub size_of : w ≢ 0 → (s : ℕ) → suc (length (entry s (verdict_of h))) ≡ w
   size_of z s =
-      let a : length (entry s (verdict_of h)) ≡ length (entry s (draft h)) = ap (λ (v : words.Verdict). length (entry s v)) (sym (drafted-of z)) in
+      let a : length (entry s (verdict_of h)) ≡ length (entry s (draft h)) = ap (λ (v : words.Verdict). length (entry s v)) (sym (drafted_of z)) in
       omega (arith, a, entry_length s (draft h), entry_length 0 (draft h), settle true (fit_of z))

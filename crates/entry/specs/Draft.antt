@@ -1,5 +1,5 @@
 -- Each number of an order by its place, and the verdict whose orders are listed so: where a verdict fits, it is the one that is meant.
-use Rattle.std.specs.Prelude.{cond, List, ℕ, ◌+◌, ◌-◌, eqb, ltb}
+use Rattle.std.specs.Prelude.{cond, ℕ, ◌+◌, ◌-◌, eqb, ltb}
 use Rattle.base.specs.Listed.{listed}
 use Rattle.verdict.specs.Verdict as words
 use Rattle.verdict.specs.Meaning.{before, now}

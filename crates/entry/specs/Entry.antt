@@ -2,7 +2,6 @@
 use Rattle.std.specs.Prelude.{◌≡◌, true, cond, List, [], ◌∷◌, ◌++◌, map, ℕ, ◌+◌, ◌/◌, ◌%◌, ◌≤◌, ltb}
 use Prim.Native.Char.{code}
 use Rattle.base.specs.Limits.{input_limit, row_limit}
-use Rattle.value.specs.declared.Ternary.{Ternary}
 use Rattle.value.specs.Value.{byte_of}
 use Rattle.text.specs.Words.{name_fits}
 use Rattle.verdict.specs.Verdict.{Witness, Finding, independent, dependent, Verdict}

@@ -17,14 +17,14 @@ use Rattle.evaluation.specs.declared.Evaluated.TheVariants.{Output, Refused}
 use Rattle.evaluation.proofs.Saying.{call_output}
 
 module _ (area prev cur order : List ℕ) (old : ℕ) where
-  pub not-formed : well_formed area ≡ false → Refused 10 0 ≡ evaluated area prev cur old order
+  pub not_formed : well_formed area ≡ false → Refused 10 0 ≡ evaluated area prev cur old order
   unfolding evaluated
-  not-formed w = rw w
+  not_formed w = rw w
 
   module _ (n : ℕ) (w : well_formed area ≡ true) (e : n ≡ (decode area).inputs) where
-    pub not-values : good_values n prev cur old ≡ false → Refused 11 0 ≡ evaluated area prev cur old order
+    pub not_values : good_values n prev cur old ≡ false → Refused 11 0 ≡ evaluated area prev cur old order
     unfolding evaluated
-    not-values g = let h : good_values (decode area).inputs prev cur old ≡ false = rw e at g in rw (w, h)
+    not_values g = let h : good_values (decode area).inputs prev cur old ≡ false = rw e at g in rw (w, h)
 
     module _ (fault : ℕ) (g : good_values n prev cur old ≡ true) (q : fault ≡ first_fault n order) where
       good : good_values (decode area).inputs prev cur old ≡ true
@@ -33,9 +33,9 @@ module _ (area prev cur order : List ℕ) (old : ℕ) where
       place : fault ≡ first_fault (decode area).inputs order
       place = rw e at q
 
-      pub not-order : fault < length order → Refused 12 fault ≡ evaluated area prev cur old order
+      pub not_order : fault < length order → Refused 12 fault ≡ evaluated area prev cur old order
       unfolding evaluated
-      not-order h = rw (w, good, ← place, lt-ltb fault (length order) h)
+      not_order h = rw (w, good, ← place, lt-ltb fault (length order) h)
 
       pub answers : (v r : Ternary) → length order ≤ fault → v ≡ value_in old → r ≡ eval_order (step_of (decode area)) (padded (vector_in prev)) (padded (vector_in cur)) v order →
           Output r ≡ evaluated area prev cur old order

@@ -10,11 +10,11 @@ use lib.Dec.{eqb, ltb}
 use lib.ListN.{length, get_or, length-map, get_or-eq_default}
 use borrow.Author.Tests.{eqb-true, eqb-false, eq-eqb, ne_eqb, le-ltb, ltb-false}
 use Rattle.base.specs.Search.{every, some}
-use Rattle.base.proofs.Search.{some_at, some_none, first-none, first_below}
+use Rattle.base.proofs.Search.{some_at, some_none, first_none, first_below}
 use Rattle.base.proofs.Bools.{both, clash, lt_or_ge}
 use Rattle.base.specs.Listed.{listed}
 use Rattle.base.specs.Limits.{input_limit}
-use Rattle.base.proofs.Listed.{listed-length, listed_at, listed-past}
+use Rattle.base.proofs.Listed.{listed_length, listed_at, listed_past}
 use Rattle.value.specs.declared.Ternary.{Ternary}
 use Rattle.value.specs.declared.Ternary.TheVariants.{V0}
 use Rattle.orders.specs.Vectors.{at}
@@ -41,7 +41,7 @@ vector_past s k h = get_or-eq_default (vector_in s) V0 {n = k} (omega (arith, ve
 
 pub padded_length : (v : List Ternary) → length (padded v) ≡ input_limit
 unfolding padded
-padded_length v = listed-length (λ (k : ℕ). get_or v k V0) input_limit
+padded_length v = listed_length (λ (k : ℕ). get_or v k V0) input_limit
 
 -- the padded vector has the same values
 pub padded_alike : (v : List Ternary) → length v ≤ input_limit → Alike (padded v) v
@@ -52,7 +52,7 @@ padded_alike v h = record { same = go }
     go zero = refl
     go (suc k) = ⊎_elim
         (λ (l : k < input_limit). listed_at (λ (k : ℕ). get_or v k V0) input_limit k V0 l)
-        (λ (g : input_limit ≤ k). listed-past (λ (k : ℕ). get_or v k V0) input_limit k V0 g ∙ sym (get_or-eq_default v V0 {n = k} (omega arith)))
+        (λ (g : input_limit ≤ k). listed_past (λ (k : ℕ). get_or v k V0) input_limit k V0 g ∙ sym (get_or-eq_default v V0 {n = k} (omega arith)))
         (lt_or_ge k input_limit)
 
 pub neither : (a b : Bool) → (a || b) ≡ false → (a ≡ false) × (b ≡ false)
@@ -78,7 +78,7 @@ order_of n l h = record {
 -- an order has no faulty index
 pub fault_of : (n : ℕ) (l : List ℕ) → Order n l → first_fault n l ≡ length l
 unfolding faulty first_fault
-fault_of n l o = first-none (faulty n l) (length l) (λ k g.
+fault_of n l o = first_none (faulty n l) (length l) (λ k g.
     let i = o.inside k g in
     let s : some k (λ (m : ℕ). eqb (get_or l m 0) (get_or l k 0)) ≡ false = some_none _ k (λ m h. ne_eqb (get_or l m 0) (get_or l k 0) (o.differ m k h g)) in
     let z : eqb (get_or l k 0) 0 ≡ false = ne_eqb (get_or l k 0) 0 (λ e. omega (arith, i.0)) in

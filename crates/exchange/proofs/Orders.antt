@@ -19,8 +19,8 @@ use Rattle.planes.specs.Planes.{lane_rows}
 use Rattle.exchange.specs.Lanes.{besides, steps_at, Steps, Agree, Given, LanesTell}
 use Rattle.exchange.specs.Paths.{agree_of, agree_at, agree_in}
 use Rattle.planes.proofs.Planes.{told_same, last_of}
-use Rattle.exchange.proofs.Entered.{enter-is, entry-low}
-use Rattle.exchange.proofs.Composed.{agree-lanes}
+use Rattle.exchange.proofs.Entered.{enter_is, entry_low}
+use Rattle.exchange.proofs.Composed.{agree_lanes}
 
 -- one case of them all
 in_place : (f h : List (List ℕ)) (x y a b : ℕ) → x < 3 → y < 3 → a < 3 → b < 3 → eqb a x ≡ false → every 27 (agree_in f h) ≡ true → agree_at f h x y a b ≡ true
@@ -46,33 +46,33 @@ module _ (t : Table) (s : List (List ℕ)) (i j rest : ℕ) where
   unfolding entry_of
   idle c x u o = rw (eq-eqb u u refl)
 
-  first-idle : (b x y o : ℕ) → first_then t s i j rest x b x y o ≡ second_then t s i j rest x b x y o
+  first_idle : (b x y o : ℕ) → first_then t s i j rest x b x y o ≡ second_then t s i j rest x b x y o
   unfolding first_then second_then
-  first-idle b x y o =
+  first_idle b x y o =
       ap (λ (q : ℕ). entry_of t s j (bit_and rest (cell_at s i x)) y b q) (idle i (bit_and rest (cell_at s j b)) x o)
       ∙ sym (idle i (bit_and rest (cell_at s j y)) x (entry_of t s j (bit_and rest (cell_at s i x)) y b o))
 
-  second-idle : (a x y o : ℕ) → first_then t s i j rest a y x y o ≡ second_then t s i j rest a y x y o
+  second_idle : (a x y o : ℕ) → first_then t s i j rest a y x y o ≡ second_then t s i j rest a y x y o
   unfolding first_then second_then
-  second-idle a x y o =
+  second_idle a x y o =
       idle j (bit_and rest (cell_at s i x)) y (entry_of t s i (bit_and rest (cell_at s j y)) x a o)
       ∙ sym (ap (λ (q : ℕ). entry_of t s i (bit_and rest (cell_at s j y)) x a q) (idle j (bit_and rest (cell_at s i a)) y o))
 
   -- so only changes of both columns are to be looked at
-  pub by-change : (a b x y o : ℕ) → (eqb a x ≡ false → eqb b y ≡ false → first_then t s i j rest a b x y o ≡ second_then t s i j rest a b x y o) →
+  pub by_change : (a b x y o : ℕ) → (eqb a x ≡ false → eqb b y ≡ false → first_then t s i j rest a b x y o ≡ second_then t s i j rest a b x y o) →
       first_then t s i j rest a b x y o ≡ second_then t s i j rest a b x y o
-  by-change a b x y o h = go (eqb a x) refl (eqb b y) refl
+  by_change a b x y o h = go (eqb a x) refl (eqb b y) refl
     where
       go : (p : Bool) → eqb a x ≡ p → (q : Bool) → eqb b y ≡ q → first_then t s i j rest a b x y o ≡ second_then t s i j rest a b x y o
-      go true e q z = let k : a ≡ x = eqb-true a x e in rw k (first-idle b x y o)
-      go false e true z = let k : b ≡ y = eqb-true b y z in rw k (second-idle a x y o)
+      go true e q z = let k : a ≡ x = eqb-true a x e in rw k (first_idle b x y o)
+      go false e true z = let k : b ≡ y = eqb-true b y z in rw k (second_idle a x y o)
       go false e false z = h e z
 
 module _ (t : Table) (s : List (List ℕ)) (outs g : List ℕ) (n i j r : ℕ) (d : Given t s outs n i j) where
   -- the step of column c, in words
-  step-told : (c h : ℕ) (f : List (List ℕ)) → Steps outs s g n c h r f → (u w a o : ℕ) → u < 3 → w < 3 → a < 3 → o < 3 → eqb a u ≡ false →
+  step_told : (c h : ℕ) (f : List (List ℕ)) → Steps outs s g n c h r f → (u w a o : ℕ) → u < 3 → w < 3 → a < 3 → o < 3 → eqb a u ≡ false →
       Told 3 (get_or f (steps_at u w a + o) []) (λ (l : ℕ). entry_of t s c (besides s g h r w l) u a o)
-  step-told c h f st u w a o lu lw la lo e = told_same 3 _ _ _ (λ l lt. enter-is t s outs n i j d o lo g c h r u w a l e) (st.at u w a o lu lw la lo e)
+  step_told c h f st u w a o lu lw la lo e = told_same 3 _ _ _ (λ l lt. enter_is t s outs n i j d o lo g c h r u w a l e) (st.at u w a o lu lw la lo e)
 
   abbrev rest : ℕ → ℕ
   rest l = bit_and r (lane_rows g l)
@@ -86,27 +86,27 @@ module _ (t : Table) (s : List (List ℕ)) (outs g : List ℕ) (n i j r : ℕ) (
       abbrev agreed : Bool
       agreed = agree_of f h (steps_at x b a) (steps_at y x b) (steps_at y a b) (steps_at x y a)
 
-      both-change : (agreed ≡ true → Same) × (Same → agreed ≡ true)
+      both_change : (agreed ≡ true → Same) × (Same → agreed ≡ true)
       unfolding first_then second_then besides
-      both-change = agree-lanes f h (steps_at x b a) (steps_at y x b) (steps_at y a b) (steps_at x y a)
+      both_change = agree_lanes f h (steps_at x b a) (steps_at y x b) (steps_at y a b) (steps_at x y a)
           (λ (o l : ℕ). entry_of t s i (besides s g j r b l) x a o)
           (λ (o l : ℕ). entry_of t s j (besides s g i r a l) y b o)
           (λ (z l : ℕ). entry_of t s j (besides s g i r x l) y b z)
           (λ (z l : ℕ). entry_of t s i (besides s g j r y l) x a z)
-          (λ o lo. step-told i j f sf x b a o lx lb la lo p)
-          (λ z lz. step-told j i h sh y x b z ly lx lb lz q)
-          (λ o lo. step-told j i h sh y a b o ly la lb lo q)
-          (λ z lz. step-told i j f sf x y a z lx ly la lz p)
-          (λ o l lo. entry-low t s outs n i j d o lo i _ x a)
-          (λ o l lo. entry-low t s outs n i j d o lo j _ y b)
-          (λ z l lz. entry-low t s outs n i j d z lz j _ y b)
-          (λ z l lz. entry-low t s outs n i j d z lz i _ x a)
+          (λ o lo. step_told i j f sf x b a o lx lb la lo p)
+          (λ z lz. step_told j i h sh y x b z ly lx lb lz q)
+          (λ o lo. step_told j i h sh y a b o ly la lb lo q)
+          (λ z lz. step_told i j f sf x y a z lx ly la lz p)
+          (λ o l lo. entry_low t s outs n i j d o lo i _ x a)
+          (λ o l lo. entry_low t s outs n i j d o lo j _ y b)
+          (λ z l lz. entry_low t s outs n i j d z lz j _ y b)
+          (λ z l lz. entry_low t s outs n i j d z lz i _ x a)
 
     agrees : every 27 (agree_in f h) ≡ true → (l : ℕ) → l < 27 → Agree t s i j (rest l)
     unfolding agree_at
     agrees all l lt = record {
       same = λ a b x y o la lb lx ly lo.
-          by-change t s i j (rest l) a b x y o (λ p q. (both-change a b x y la lb lx ly p q).0 (rw q at (in_place f h x y a b lx ly la lb p all)) o l lo lt);
+          by_change t s i j (rest l) a b x y o (λ p q. (both_change a b x y la lb lx ly p q).0 (rw q at (in_place f h x y a b lx ly la lb p all)) o l lo lt);
     }
 
     module _ (a : (l : ℕ) → l < 27 → Agree t s i j (rest l)) where
@@ -116,11 +116,11 @@ module _ (t : Table) (s : List (List ℕ)) (outs g : List ℕ) (n i j r : ℕ) (
         where
           go : (b : Bool) → eqb w y ≡ b → cond b true (agree_of f h (steps_at x w v) (steps_at y x w) (steps_at y v w) (steps_at x y v)) ≡ true
           go true q = refl
-          go false q = (both-change v w x y lv lw lx ly e q).1 (λ o l lo lt. (a l lt).same v w x y o lv lw lx ly lo)
+          go false q = (both_change v w x y lv lw lx ly e q).1 (λ o l lo lt. (a l lt).same v w x y o lv lw lx ly lo)
 
-      in-each : (k : ℕ) → k < 27 → agree_in f h k ≡ true
+      in_each : (k : ℕ) → k < 27 → agree_in f h k ≡ true
       unfolding agree_in
-      in-each k lk = go (eqb (k % 3) (k / 9)) refl
+      in_each k lk = go (eqb (k % 3) (k / 9)) refl
         where
           here : (w : ℕ) → w < 3 → eqb (k % 3) (k / 9) ≡ false → agree_at f h (k / 9) (k / 3 % 3) (k % 3) w ≡ true
           here w lw e = at_each (k / 9) (k / 3 % 3) (k % 3) w (omega arith) (omega arith) (omega arith) lw e
@@ -130,12 +130,12 @@ module _ (t : Table) (s : List (List ℕ)) (outs g : List ℕ) (n i j r : ℕ) (
           go true e = refl
           go false e = and (here 0 (omega arith) e) (and (here 1 (omega arith) e) (here 2 (omega arith) e))
 
-      all-agree : every 27 (agree_in f h) ≡ true
-      all-agree = every_of (agree_in f h) 27 in-each
+      all_agree_lem : every 27 (agree_in f h) ≡ true
+      all_agree_lem = every_of (agree_in f h) 27 in_each
 
 pub lanes_tell : (s : List (List ℕ)) (outs g : List ℕ) (n i j r : ℕ) (f h : List (List ℕ)) (b : Bool) → Steps outs s g n i j r f → Steps outs s g n j i r h →
     b ≡ every 27 (agree_in f h) → LanesTell s outs g n i j r b
 lanes_tell s outs g n i j r f h b sf sh e = record {
   sound = λ q. record { at = λ t l lt d. agrees t s outs g n i j r d f h sf sh (sym e ∙ q) l lt };
-  whole = λ t d a. e ∙ all-agree t s outs g n i j r d f h sf sh a;
+  whole = λ t d a. e ∙ all_agree_lem t s outs g n i j r d f h sf sh a;
 }

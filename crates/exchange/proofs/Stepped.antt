@@ -32,9 +32,9 @@ module _ (outs : List ℕ) (s : List (List ℕ)) (g : List ℕ) (n i j r : ℕ) 
   unfolding rows_by besides
   by_first u w o l = lane_first r (cell_at s j w) (cell_at s n o) (cell_at s i u) (lane_rows g l)
 
-  by-second : (u w o l : ℕ) → bit_and (rows_by s n j i r w o u) (lane_rows g l) ≡ bit_and (bit_and (besides s g i r u l) (cell_at s n o)) (cell_at s j w)
+  by_second : (u w o l : ℕ) → bit_and (rows_by s n j i r w o u) (lane_rows g l) ≡ bit_and (bit_and (besides s g i r u l) (cell_at s n o)) (cell_at s j w)
   unfolding rows_by besides
-  by-second u w o l =
+  by_second u w o l =
       ap (λ (x : ℕ). bit_and x (lane_rows g l)) (ends r (cell_at s j w) (cell_at s n o) (cell_at s i u))
       ∙ lane_first r (cell_at s i u) (cell_at s n o) (cell_at s j w) (lane_rows g l)
 
@@ -42,7 +42,7 @@ module _ (outs : List ℕ) (s : List (List ℕ)) (g : List ℕ) (n i j r : ℕ) 
   unfolding place_of
   levels_by f h = (
     record { at = λ u w o lu lw lo. told_same 4 _ _ _ (λ l h. ap (answer_in outs o) (by_first u w o l)) (level_of_lem u w o _ _ lu lw lo refl (h ((u * 3 + w) * 3 + o) (omega arith))) },
-    record { at = λ u w o lu lw lo. told_same 4 _ _ _ (λ l h. ap (answer_in outs o) (by-second w u o l)) (level_of_lem w u o _ _ lw lu lo refl (h ((w * 3 + u) * 3 + o) (omega arith))) },
+    record { at = λ u w o lu lw lo. told_same 4 _ _ _ (λ l h. ap (answer_in outs o) (by_second w u o l)) (level_of_lem w u o _ _ lw lu lo refl (h ((w * 3 + u) * 3 + o) (omega arith))) },
   )
 
 -- a step goes on from the planes of the level rows

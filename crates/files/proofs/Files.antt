@@ -13,7 +13,7 @@ use lib.ListN.{length, get_or, take, drop, length-append, length-take, length-dr
 use lib.Seq.{take-append_seam, take-append-add, take-take, take-nil, drop-append-add, get_or-append-add, get_or-drop, get_or-take, ext_get_or, length-take-le}
 use Rattle.files.specs.Parts.{Without, join}
 use Rattle.files.specs.Files.{LF, up, good, whole, Place, kept, new, zeroed, Cut}
-use Rattle.files.proofs.Parts.{join-snoc}
+use Rattle.files.proofs.Parts.{join_snoc}
 
 -- ---- the good length
 
@@ -59,7 +59,7 @@ held_lines bs = record { tail = []; file = sym (append-nil (join LF bs)); open_e
 pub held_whole : {f : List ℕ} {bs : List (List ℕ)} (b : List ℕ) → Held f bs → Held (whole f b) (bs ++ (b ∷ []))
 held_whole {f} {bs} b h = record {
   tail = drop (suc (length b)) h.tail;
-  file = rw (held_good h, h.file, take-append_seam (join LF bs) h.tail, drop-append-add (join LF bs) h.tail (suc (length b)), join-snoc LF bs b) (simp append_assoc);
+  file = rw (held_good h, h.file, take-append_seam (join LF bs) h.tail, drop-append-add (join LF bs) h.tail (suc (length b)), join_snoc LF bs b) (simp append_assoc);
   open_end = λ k e. h.open_end (suc (length b) + k) (sym (get_or-drop (suc (length b)) h.tail k 0) ∙ e);
 }
 

@@ -1,6 +1,5 @@
 -- The book's file, what an append leaves, and what a cut leaves. A line is given by its bytes without the LF.
 use Rattle.std.specs.Prelude.{◌≡◌, List, [], ◌∷◌, ◌++◌, cond, ℕ, zero, suc, ◌+◌, ◌-◌, ◌≤◌, ◌<◌, max, eqb, length, get_or, take, drop}
-use Prim.Native.Char.{code}
 
 abbrev pub LF : ℕ
 LF = 10

@@ -1,5 +1,5 @@
 -- Bytes in parts, each followed by the byte c: the lines of a book and their LF, the fields of a line and their space.
-use Rattle.std.specs.Prelude.{◌≡◌, ◌≢◌, cond, List, [], ◌∷◌, ◌++◌, ℕ, zero, suc, ◌-◌, length, get_or, take, drop, eqb}
+use Rattle.std.specs.Prelude.{◌≢◌, cond, List, [], ◌∷◌, ◌++◌, ℕ, zero, suc, ◌-◌, length, get_or, take, drop, eqb}
 use Rattle.base.specs.Search.{first_from}
 
 -- no c anywhere: past the end get_or gives 0, which is no such byte

@@ -19,7 +19,7 @@ use Rattle.symbol.specs.declared.Output.{Output}
 use Rattle.symbol.specs.Match.{match_level, match_held, match_change, match_field, is_edge, meet}
 use Rattle.stored.specs.Stored.{output_byte, output_of}
 use Rattle.stored.proofs.Stores.{output_of_byte}
-use Rattle.symbol.proofs.Meet.{level_is_held, change_is_edge, meet-level, meet-change, level-met, change-met}
+use Rattle.symbol.proofs.Meet.{level_is_held, change_is_edge, meet_level, meet_change, level_met, change_met}
 use Rattle.table.specs.Table.{Row, symbol_at}
 use Rattle.table.specs.Match.{field_of, columns_match, row_matches, edge_at}
 use Rattle.formed.specs.Valid.{Contradict}
@@ -30,8 +30,8 @@ same_output_lem o u e = sym (output_of_byte o) ∙ ap output_of e ∙ output_of_
 
 -- ---- values that match both rows show that each column meets
 field_meets : (s u : Symbol) (b : Bool) (z y : Ternary) → cond b (match_change s z y) (match_held s y) ≡ true → cond b (match_change u z y) (match_held u y) ≡ true → meet s u ≡ true
-field_meets s u true z y p q = meet-change s u z y p q
-field_meets s u false z y p q = meet-level s u y p q
+field_meets s u true z y p q = meet_change s u z y p q
+field_meets s u false z y p q = meet_level s u y p q
 
 pub contradict_of : (n : ℕ) (r q : Row) → Contradict n r q → contradict n r q ≡ true
 unfolding contradict same_output columns_meet levels_meet row_matches columns_match match_field field_of match_held
@@ -42,7 +42,7 @@ contradict_of n r q c =
     let s = both (columns_match n q v j c.from) (match_level q.state c.old) c.right in
     and (ap not (ne_eqb _ _ (λ e. c.differ (same_output_lem r.output q.output e))))
     (and
-    (meet-level (Held r.state) (Held q.state) c.old p.1 s.1)
+    (meet_level (Held r.state) (Held q.state) c.old p.1 s.1)
     (every_of (λ (k : ℕ). meet (symbol_at r k) (symbol_at q k)) n
     (λ k h. field_meets (symbol_at r k) (symbol_at q k) (eqb k j) c.from (get_or v k V0)
     (every_at (λ (m : ℕ). match_field (field_of (symbol_at r m) v j c.from m)) n k p.0 h)
@@ -50,8 +50,8 @@ contradict_of n r q c =
 
 -- ---- columns and states that meet give values that match both rows
 kind_step : (s u : Symbol) (b : Bool) → is_edge s ≡ b → meet s u ≡ true → is_edge s ≡ is_edge u
-kind_step s u true e m = let w = change-met s u m e in e ∙ sym (change_is_edge u w.0 w.1 w.3)
-kind_step s u false e m = let w = level-met s u m e in e ∙ sym (level_is_held u w.0 w.2)
+kind_step s u true e m = let w = change_met s u m e in e ∙ sym (change_is_edge u w.0 w.1 w.3)
+kind_step s u false e m = let w = level_met s u m e in e ∙ sym (level_is_held u w.0 w.2)
 
 module _ (n : ℕ) (r q : Row) (meets : (k : ℕ) → k < n → meet (symbol_at r k) (symbol_at q k) ≡ true)
     (one : (k : ℕ) → k < n → (k ≡ edge_at n r → ⊥) → is_edge (symbol_at r k) ≡ false) where
@@ -73,7 +73,7 @@ module _ (n : ℕ) (r q : Row) (meets : (k : ℕ) → k < n → meet (symbol_at 
   unfolding edge_at
   turns =
       ⊎_elim
-      (λ (l : edge_at n r < n). let w = change-met _ _ (meets (edge_at n r) l) (first_holds (λ (k : ℕ). is_edge (symbol_at r k)) n l) in (w.0, w.1, λ g. (w.2, w.3)))
+      (λ (l : edge_at n r < n). let w = change_met _ _ (meets (edge_at n r) l) (first_holds (λ (k : ℕ). is_edge (symbol_at r k)) n l) in (w.0, w.1, λ g. (w.2, w.3)))
       (λ (g : n ≤ edge_at n r). (V0, V0, λ l. absurd (omega arith)))
       (lt_or_ge (edge_at n r) n)
 
@@ -83,7 +83,7 @@ module _ (n : ℕ) (r q : Row) (meets : (k : ℕ) → k < n → meet (symbol_at 
       let w = t (omega arith) in
       (x, (rw (e, i) w.0, rw (e, i) w.1))
   fits_by z x t k h false e =
-      let w = level-met (symbol_at r k) (symbol_at q k) (meets k h) (one k h (eqb-false _ _ e)) in
+      let w = level_met (symbol_at r k) (symbol_at q k) (meets k h) (one k h (eqb-false _ _ e)) in
       (w.0, (rw e w.1, rw e w.2))
 
   contradiction : levels_meet r.state q.state ≡ true → (r.output ≡ q.output → ⊥) → Contradict n r q
@@ -91,7 +91,7 @@ module _ (n : ℕ) (r q : Row) (meets : (k : ℕ) → k < n → meet (symbol_at 
   contradiction states differ =
       let t = turns in
       let w = chosen (Fits t.0) V0 n (λ k h. fits_by t.0 t.1 t.2 k h (eqb k (edge_at n r)) refl) in
-      let o = level-met (Held r.state) (Held q.state) states refl in
+      let o = level_met (Held r.state) (Held q.state) states refl in
       record {
         place = same_place;
         values = w.0;

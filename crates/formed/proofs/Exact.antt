@@ -19,11 +19,11 @@ use Rattle.text.specs.Words.{is_name, name_fits}
 use Rattle.table.specs.Places.{area_size}
 use Rattle.table.specs.Table.{Row, Table, Shaped, row_at}
 use Rattle.table.specs.Area.{encode, decode, canonical}
-use Rattle.table.proofs.Encoding.{decode-encode, encode_decode, encoding_passes, encode_length}
+use Rattle.table.proofs.Encoding.{decode_encode, encode_decode, encoding_passes, encode_length}
 use Rattle.formed.specs.Valid.{Contradict, Valid}
 use Rattle.formed.specs.Tests.{contradict, columns_valid, row_valid, rows_valid, row_agrees, rows_agree, within, head_valid, valid, well_formed}
 use Rattle.formed.proofs.Contradiction.{contradict_of, contradict_is}
-use Rattle.formed.proofs.Rows.{one-edge, row_is, of-columns, of_row}
+use Rattle.formed.proofs.Rows.{one_edge, row_is, of_columns, of_row}
 
 start_is : (s : Bool) (y : Ternary) → (s || same_value y Vx) ≡ true → s ≡ false → y ≡ Vx
 unfolding same_value rank_of
@@ -41,7 +41,7 @@ not_contradict : (n : ℕ) (r q : Row) → contradict n r q ≡ false → Contra
 not_contradict n r q e c = clash (sym (contradict_of n r q c) ∙ e)
 
 refuted : (n : ℕ) (r q : Row) → columns_valid n r ≡ true → (Contradict n r q → ⊥) → (b : Bool) → contradict n r q ≡ b → not b ≡ true
-refuted n r q v h true e = absurd (h (contradict_is n r q (one-edge n r v) e))
+refuted n r q v h true e = absurd (h (contradict_is n r q (one_edge n r v) e))
 refuted n r q v h false e = refl
 
 within_is : (m limit : ℕ) → within m limit ≡ true → (1 ≤ m) × (m ≤ limit)
@@ -94,7 +94,7 @@ of_valid t v =
     (and (every_of (λ (i : ℕ). row_valid t.inputs t.sequential (row_at t i)) (length t.rows) (λ i h. of_row t.inputs t.sequential (row_at t i) (v.each i h)))
     (every_of (row_agrees t) (length t.rows)
     (λ j h. every_of (λ (i : ℕ). not (contradict t.inputs (row_at t i) (row_at t j))) j
-    (λ i l. refuted t.inputs (row_at t i) (row_at t j) (of-columns t.inputs t.sequential (row_at t i) (v.each i (omega arith))) (v.agree i j l h) (contradict t.inputs (row_at t i) (row_at t j)) refl))))
+    (λ i l. refuted t.inputs (row_at t i) (row_at t j) (of_columns t.inputs t.sequential (row_at t i) (v.each i (omega arith))) (v.agree i j l h) (contradict t.inputs (row_at t i) (row_at t j)) refl))))
 
 pub valid_iff : (t : Table) → (valid t ≡ true) ↔ Valid t
 valid_iff t = (valid_is t, of_valid t)
@@ -124,11 +124,11 @@ pub of_formed : (t : Table) → Valid t → well_formed (encode t) ≡ true
 unfolding well_formed
 of_formed t v =
     let s = shaped_of t v in
-    and (eq-eqb _ _ (encode_length t)) (and (encoding_passes t s) (ap valid (decode-encode t s) ∙ of_valid t v))
+    and (eq-eqb _ _ (encode_length t)) (and (encoding_passes t s) (ap valid (decode_encode t s) ∙ of_valid t v))
 
 pub formed_iff : (a : List ℕ) → (well_formed a ≡ true) ↔ ((t : Table) × Valid t × (a ≡ encode t))
 formed_iff a = (λ e. (decode a, formed_valid a e, formed_encoding a e), λ w. rw w.2 (of_formed w.0 w.1))
 
 -- no other table has that encoding
 pub formed_table : (a : List ℕ) (t : Table) → Valid t → a ≡ encode t → decode a ≡ t
-formed_table a t v e = ap decode e ∙ decode-encode t (shaped_of t v)
+formed_table a t v e = ap decode e ∙ decode_encode t (shaped_of t v)

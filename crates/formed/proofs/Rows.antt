@@ -8,7 +8,7 @@ use lib.ListN.{length}
 use borrow.Author.Tests.{eqb-true, eqb-false, eq-eqb, ne_eqb, not-true}
 use Rattle.base.specs.Search.{every, first}
 use Rattle.base.proofs.Bools.{both, and, clash}
-use Rattle.base.proofs.Search.{every_at, every_of, first_below, first_holds, first_le, first-none}
+use Rattle.base.proofs.Search.{every_at, every_of, first_below, first_holds, first_le, first_none}
 use Rattle.symbol.specs.declared.Level.TheVariants.{Any}
 use Rattle.symbol.specs.declared.Symbol.{Symbol}
 use Rattle.symbol.specs.declared.Output.TheVariants.{Old}
@@ -31,16 +31,16 @@ module _ (n : ℕ) (r : Row) (e : columns_valid n r ≡ true) where
   unfolding columns_valid
   column k h = every_at (λ (m : ℕ). column_valid (symbol_at r m) (eqb m (edge_at n r))) n k e h
 
-  pub one-edge : (k : ℕ) → k < n → (k ≡ edge_at n r → ⊥) → is_edge (symbol_at r k) ≡ false
-  one-edge k h ne = edge_here (symbol_at r k) (is_edge (symbol_at r k)) (eqb k (edge_at n r)) refl (column k h) (ne_eqb _ _ ne)
+  pub one_edge : (k : ℕ) → k < n → (k ≡ edge_at n r → ⊥) → is_edge (symbol_at r k) ≡ false
+  one_edge k h ne = edge_here (symbol_at r k) (is_edge (symbol_at r k)) (eqb k (edge_at n r)) refl (column k h) (ne_eqb _ _ ne)
 
-  edge-is : (k : ℕ) → k < n → is_edge (symbol_at r k) ≡ true → (b : Bool) → eqb k (edge_at n r) ≡ b → k ≡ edge_at n r
-  edge-is k h i true e = eqb-true _ _ e
-  edge-is k h i false e = clash (sym i ∙ one-edge k h (eqb-false _ _ e))
+  edge_is : (k : ℕ) → k < n → is_edge (symbol_at r k) ≡ true → (b : Bool) → eqb k (edge_at n r) ≡ b → k ≡ edge_at n r
+  edge_is k h i true e = eqb-true _ _ e
+  edge_is k h i false e = clash (sym i ∙ one_edge k h (eqb-false _ _ e))
 
-  matches-some : (k : ℕ) → k < n → possible (symbol_at r k) ≡ true
+  matches_some : (k : ℕ) → k < n → possible (symbol_at r k) ≡ true
   unfolding column_valid
-  matches-some k h = (both (possible (symbol_at r k)) _ (column k h)).0
+  matches_some k h = (both (possible (symbol_at r k)) _ (column k h)).0
 
 combinational_is : (n : ℕ) (r : Row) → combinational n r ≡ true → Combinational n r
 unfolding combinational edge_at level_of output_byte
@@ -57,7 +57,7 @@ combinational_is n r e =
 of_combinational : (n : ℕ) (r : Row) → Combinational n r → combinational n r ≡ true
 unfolding combinational edge_at level_byte output_byte
 of_combinational n r p =
-    and (eq-eqb _ _ (first-none (λ (m : ℕ). is_edge (symbol_at r m)) n p.levels))
+    and (eq-eqb _ _ (first_none (λ (m : ℕ). is_edge (symbol_at r m)) n p.levels))
     (and (eq-eqb (level_byte r.state) 63 (ap level_byte p.state)) (ap not (ne_eqb (output_byte r.output) 45 (λ e. p.output (same_output_lem r.output Old e)))))
 
 plain_is : (s : Bool) (n : ℕ) (r : Row) → (s || combinational n r) ≡ true → s ≡ false → Combinational n r
@@ -75,8 +75,8 @@ row_is n s r e =
     let q = both (columns_valid n r) _ p.1 in
     record {
       columns = eqb-true _ _ p.0;
-      matched = matches-some n r q.0;
-      one = λ k m h g a b. edge-is n r q.0 k h a (eqb k (edge_at n r)) refl ∙ sym (edge-is n r q.0 m g b (eqb m (edge_at n r)) refl);
+      matched = matches_some n r q.0;
+      one = λ k m h g a b. edge_is n r q.0 k h a (eqb k (edge_at n r)) refl ∙ sym (edge_is n r q.0 m g b (eqb m (edge_at n r)) refl);
       plain = plain_is s n r q.1;
     }
 
@@ -89,10 +89,10 @@ module _ (n : ℕ) (s : Bool) (r : Row) (v : ValidRow n s r) where
       let g : edge_at n r < n = omega arith in
       eq-eqb _ _ (v.one k (edge_at n r) h g e (first_holds (λ (m : ℕ). is_edge (symbol_at r m)) n g))
 
-  pub of-columns : columns_valid n r ≡ true
+  pub of_columns : columns_valid n r ≡ true
   unfolding columns_valid column_valid
-  of-columns = every_of (λ (k : ℕ). column_valid (symbol_at r k) (eqb k (edge_at n r))) n (λ k h. and (v.matched k h) (at_edge k h (is_edge (symbol_at r k)) refl))
+  of_columns = every_of (λ (k : ℕ). column_valid (symbol_at r k) (eqb k (edge_at n r))) n (λ k h. and (v.matched k h) (at_edge k h (is_edge (symbol_at r k)) refl))
 
   pub of_row : row_valid n s r ≡ true
   unfolding row_valid
-  of_row = and (eq-eqb _ _ v.columns) (and of-columns (of_plain s n r v.plain))
+  of_row = and (eq-eqb _ _ v.columns) (and of_columns (of_plain s n r v.plain))

@@ -25,14 +25,14 @@ use Rattle.formed.specs.Cells.{state_cell, output_cell, cell_count, Cells, Cells
 
 -- two sets that share an offer are those of symbols that meet
 module _ (s u : Symbol) (x y : ℕ) (p : x ≡ offers s) (q : y ≡ offers u) where
-  sets-meet : meet s u ≡ not (eqb (bit_and x y) 0)
-  sets-meet = rw (p, q) (meet_offers s u)
+  sets_meet : meet s u ≡ not (eqb (bit_and x y) 0)
+  sets_meet = rw (p, q) (meet_offers s u)
 
-  pub sets-apart : bit_and x y ≡ 0 → meet s u ≡ false
-  sets-apart e = sets-meet ∙ ap not (eq-eqb (bit_and x y) 0 e)
+  pub sets_apart : bit_and x y ≡ 0 → meet s u ≡ false
+  sets_apart e = sets_meet ∙ ap not (eq-eqb (bit_and x y) 0 e)
 
-  pub sets-share : (bit_and x y ≡ 0 → ⊥) → meet s u ≡ true
-  sets-share e = sets-meet ∙ ap not (ne_eqb (bit_and x y) 0 e)
+  pub sets_share : (bit_and x y ≡ 0 → ⊥) → meet s u ≡ true
+  sets_share e = sets_meet ∙ ap not (ne_eqb (bit_and x y) 0 e)
 
 pub set_edge : (s : Symbol) (x : ℕ) → x ≡ offers s → eqb (x % 8) 0 ≡ is_edge s
 set_edge s x p = rw p (sym (edge_offers s))
@@ -77,18 +77,18 @@ rows_none t s = record { few = omega arith; row = λ i g. absurd (omega arith) }
 
 -- rows contradict where their outputs differ, and their states and columns meet
 module _ (n : ℕ) (r q : Row) where
-  pub same-outputs : same_output r.output q.output ≡ true → contradict n r q ≡ false
+  pub same_outputs : same_output r.output q.output ≡ true → contradict n r q ≡ false
   unfolding contradict
-  same-outputs e = rw e
+  same_outputs e = rw e
 
   module _ (differ : same_output r.output q.output ≡ false) (x y : ℕ) (p : x ≡ offers (Held r.state)) (o : y ≡ offers (Held q.state)) where
-    pub states-apart : bit_and x y ≡ 0 → contradict n r q ≡ false
+    pub states_apart : bit_and x y ≡ 0 → contradict n r q ≡ false
     unfolding contradict levels_meet
-    states-apart e = rw (differ, sets-apart (Held r.state) (Held q.state) x y p o e)
+    states_apart e = rw (differ, sets_apart (Held r.state) (Held q.state) x y p o e)
 
-    pub states-meet : (bit_and x y ≡ 0 → ⊥) → contradict n r q ≡ columns_meet n r q
+    pub states_meet : (bit_and x y ≡ 0 → ⊥) → contradict n r q ≡ columns_meet n r q
     unfolding contradict levels_meet
-    states-meet e = rw (differ, sets-share (Held r.state) (Held q.state) x y p o e)
+    states_meet e = rw (differ, sets_share (Held r.state) (Held q.state) x y p o e)
 
 -- the outputs in their cells
 module _ (o u : Output) (x y : ℕ) (p : x ≡ output_byte o) (q : y ≡ output_byte u) where
@@ -96,6 +96,6 @@ module _ (o u : Output) (x y : ℕ) (p : x ≡ output_byte o) (q : y ≡ output_
   unfolding same_output
   cells_same e = eq-eqb (output_byte o) (output_byte u) (sym p ∙ e ∙ q)
 
-  pub cells-differ : (x ≡ y → ⊥) → same_output o u ≡ false
+  pub cells_differ : (x ≡ y → ⊥) → same_output o u ≡ false
   unfolding same_output
-  cells-differ e = ne_eqb (output_byte o) (output_byte u) (λ z. e (p ∙ z ∙ sym q))
+  cells_differ e = ne_eqb (output_byte o) (output_byte u) (λ z. e (p ∙ z ∙ sym q))

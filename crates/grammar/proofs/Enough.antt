@@ -21,27 +21,27 @@ module _ {A : Type 0} where
   itself : (m : Reader A) → Alike m m
   itself m = record { alike = λ k s. refl }
 
-  alike-check : (b : Bool) (c p : ℕ) {f g : Unit {0} → Reader A} → (b ≡ true → (u : Unit {0}) → Alike (f u) (g u)) → Alike (check b c p >>= f) (check b c p >>= g)
+  alike_check : (b : Bool) (c p : ℕ) {f g : Unit {0} → Reader A} → (b ≡ true → (u : Unit {0}) → Alike (f u) (g u)) → Alike (check b c p >>= f) (check b c p >>= g)
   unfolding ◌>>=◌ check
-  alike-check true c p h = record { alike = λ k s. (h refl tt).alike k s }
-  alike-check false c p h = record { alike = λ k s. refl }
+  alike_check true c p h = record { alike = λ k s. (h refl tt).alike k s }
+  alike_check false c p h = record { alike = λ k s. refl }
 
-  alike-if : (b : Bool) {m m' l l' : Reader A} → Alike m m' → Alike l l' → Alike (if b m l) (if b m' l')
+  alike_if : (b : Bool) {m m' l l' : Reader A} → Alike m m' → Alike l l' → Alike (if b m l) (if b m' l')
   unfolding if
-  alike-if true f g = f
-  alike-if false f g = g
+  alike_if true f g = f
+  alike_if false f g = g
 
 module _ {A B : Type 0} where
-  alike-after : {P : A → Type 0} {m : Reader A} {f g : A → Reader B} → Gives P m → ((a : A) → P a → Alike (f a) (g a)) → Alike (m >>= f) (m >>= g)
+  alike_after : {P : A → Type 0} {m : Reader A} {f g : A → Reader B} → Gives P m → ((a : A) → P a → Alike (f a) (g a)) → Alike (m >>= f) (m >>= g)
   unfolding ◌>>=◌
-  alike-after {P} {m} {f} {g} h e = record { alike = λ k s. go (m k s) (h.post k s) }
+  alike_after {P} {m} {f} {g} h e = record { alike = λ k s. go (m k s) (h.post k s) }
     where
       go : (r : Result A) → Post P r → bind r f ≡ bind r g
       go (got a j t) p = (e a p).alike j t
       go (refused c p) q = refl
 
-  alike-past : (m : Reader A) {f g : A → Reader B} → ((a : A) → Alike (f a) (g a)) → Alike (m >>= f) (m >>= g)
-  alike-past m {f} {g} e = alike-after {P = λ a. Unit {0}} (record { post = λ k s. any (m k s) }) (λ a u. e a)
+  alike_past : (m : Reader A) {f g : A → Reader B} → ((a : A) → Alike (f a) (g a)) → Alike (m >>= f) (m >>= g)
+  alike_past m {f} {g} e = alike_after {P = λ a. Unit {0}} (record { post = λ k s. any (m k s) }) (λ a u. e a)
     where
       any : (r : Result A) → Post (λ a. Unit {0}) r
       any (got a k s) = tt
@@ -67,8 +67,8 @@ unfolding input_list
 list_alike zero g q left a b = absurd (omega arith)
 list_alike (suc f) zero q left a b = absurd (omega arith)
 list_alike (suc f) (suc g) q left a b =
-    alike-past _ (λ w. alike-check _ _ _ (λ t v. let u = remove_less w.spelt left (both (not (same w.spelt q)) (member w.spelt left) t).1 in
-    alike-past _ (λ more. alike-if _ (list_alike f g q (remove w.spelt left) (omega arith) (omega arith)) (itself _))))
+    alike_past _ (λ w. alike_check _ _ _ (λ t v. let u = remove_less w.spelt left (both (not (same w.spelt q)) (member w.spelt left) t).1 in
+    alike_past _ (λ more. alike_if _ (list_alike f g q (remove w.spelt left) (omega arith) (omega arith)) (itself _))))
 
 -- how many declarations can still be right
 abbrev size : List (List ℕ) → Bool → ℕ
@@ -83,12 +83,12 @@ unfolding declarations
 declarations_alike zero g q left reg a b = absurd (omega arith)
 declarations_alike (suc f) zero q left reg a b = absurd (omega arith)
 declarations_alike (suc f) (suc g) q left reg a b =
-    alike-past _ (λ u. alike-past _ (λ p. alike-past _ (λ w.
-    alike-if _ (alike-past _ (λ x. alike-check _ _ _ (λ t v. let h = remove_less q left (both (same x.spelt q) (member q left) t).1 in
-    alike-past _ (λ c. declarations_alike f g q (remove q left) reg (omega arith) (omega arith)))))
-    (alike-if _ (alike-past _ (λ x. alike-check _ _ _ (λ t v. let h = not_yet reg left (both (same x.spelt q) (not reg) t).1 in
-    alike-past _ (λ c. declarations_alike f g q left true (omega arith) (omega arith)))))
-    (alike-if _ (alike-after (list_less (length left) list_room q left (omega arith)) (λ l h. declarations_alike f g q l reg (omega arith) (omega arith)))
+    alike_past _ (λ u. alike_past _ (λ p. alike_past _ (λ w.
+    alike_if _ (alike_past _ (λ x. alike_check _ _ _ (λ t v. let h = remove_less q left (both (same x.spelt q) (member q left) t).1 in
+    alike_past _ (λ c. declarations_alike f g q (remove q left) reg (omega arith) (omega arith)))))
+    (alike_if _ (alike_past _ (λ x. alike_check _ _ _ (λ t v. let h = not_yet reg left (both (same x.spelt q) (not reg) t).1 in
+    alike_past _ (λ c. declarations_alike f g q left true (omega arith) (omega arith)))))
+    (alike_if _ (alike_after (list_less (length left) list_room q left (omega arith)) (λ l h. declarations_alike f g q l reg (omega arith) (omega arith)))
     (itself _))))))
 
 -- for ports that a port list gave

@@ -61,8 +61,8 @@ module _ (edge : Bool) (s : Symbol) (l : List Symbol) where
       go true h = refl
       go false h = rw (h refl 0 (omega arith))
 
-  pub fits-tail : Fits edge (s ∷ l) → Fits (edge && not (is_edge s)) l
-  fits-tail f = record {
+  pub fits_tail : Fits edge (s ∷ l) → Fits (edge && not (is_edge s)) l
+  fits_tail f = record {
     matched = λ k h. f.matched (suc k) (omega arith);
     one = λ k m h g a b. let e = f.one (suc k) (suc m) (omega arith) (omega arith) a b in omega arith;
     levels = λ e k h. go edge f.levels (is_edge s) refl e k h (is_edge (get_or l k any_symbol)) refl;
@@ -100,13 +100,13 @@ pub record Agreeing (n : ℕ) (sequential : Bool) (l : List Row) : Type 0 where
   pub agree : (i j : ℕ) → i < j → j < length l → contradict n (get_or l i no_row) (get_or l j no_row) ≡ false
 
 module _ (n : ℕ) (sequential : Bool) where
-  pub agreeing-none : Agreeing n sequential []
-  agreeing-none = record { each = λ i h. absurd (omega arith); agree = λ i j l h. absurd (omega arith) }
+  pub agreeing_none : Agreeing n sequential []
+  agreeing_none = record { each = λ i h. absurd (omega arith); agree = λ i j l h. absurd (omega arith) }
 
   -- one row more, that contradicts none before it
-  pub agreeing-more : (l : List Row) (r : Row) → Agreeing n sequential l → ValidRow n sequential r → agrees n l r ≡ true → Agreeing n sequential (l ++ (r ∷ []))
+  pub agreeing_more : (l : List Row) (r : Row) → Agreeing n sequential l → ValidRow n sequential r → agrees n l r ≡ true → Agreeing n sequential (l ++ (r ∷ []))
   unfolding agrees
-  agreeing-more l r a v e = record {
+  agreeing_more l r a v e = record {
     each = λ i h. ⊎_elim
         (λ (q : i ≡ length l). rw (q, last) v)
         (λ (g : i < length l). rw (get_or-append l (r ∷ []) no_row i g) (a.each i g))
@@ -125,9 +125,9 @@ module _ (n : ℕ) (sequential : Bool) where
     here : get_or (before ++ (r ∷ l)) (length before) no_row ≡ r
     here = get_or_at before r l no_row (length before) refl
 
-    pub row-among : ValidRow n sequential r
-    row-among = rw here at (a.each (length before) (omega (arith, length-append before (r ∷ l))))
+    pub row_among : ValidRow n sequential r
+    row_among = rw here at (a.each (length before) (omega (arith, length-append before (r ∷ l))))
 
-    pub agrees-among : agrees n before r ≡ true
+    pub agrees_among : agrees n before r ≡ true
     unfolding agrees
-    agrees-among = every_of (λ (i : ℕ). not (contradict n (get_or before i no_row) r)) (length before) (λ i h. ap not (rw (here, get_or-append before (r ∷ l) no_row i h) at (a.agree i (length before) h (omega (arith, length-append before (r ∷ l))))))
+    agrees_among = every_of (λ (i : ℕ). not (contradict n (get_or before i no_row) r)) (length before) (λ i h. ap not (rw (here, get_or-append before (r ∷ l) no_row i h) at (a.agree i (length before) h (omega (arith, length-append before (r ∷ l))))))

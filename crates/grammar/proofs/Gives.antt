@@ -25,7 +25,7 @@ use Rattle.grammar.specs.Header.{ports, port_list, Ports, Declared, declared, de
 use Rattle.grammar.specs.Rows.{Written, symbol, dash, may_stand, column_of, level_in, level_out, output_said, saying, field, columns, state, row, no_rows, rows}
 use Rattle.grammar.specs.Reading.{primitive, Reading, table, end, refusal, outcome, or_end, read}
 use Rattle.grammar.proofs.Post.{Post, Says, Gives, after, past, given, refuses, faults, checked, branch, needed}
-use Rattle.grammar.proofs.Fits.{Fits, fits_none, fits_more, fits_row, Agreeing, agreeing-none, agreeing-more}
+use Rattle.grammar.proofs.Fits.{Fits, fits_none, fits_more, fits_row, Agreeing, agreeing_none, agreeing_more}
 
 -- ---- names
 
@@ -152,7 +152,7 @@ rows_valid_lem sequential n zero before e h =
 rows_valid_lem sequential n (suc room) before e h =
     past _ (λ a. past _ (λ p. past _ (λ more. branch _ _ _
     (λ t. after (row_valid_lem sequential n) (λ r v. checked _ _ _ _ (λ u.
-    rows_valid_lem sequential n room (before ++ (r ∷ [])) (omega (arith, length-append before (r ∷ []))) (agreeing-more n sequential before r h v u))))
+    rows_valid_lem sequential n room (before ++ (r ∷ [])) (omega (arith, length-append before (r ∷ []))) (agreeing_more n sequential before r h v u))))
     (λ t. past _ (λ w. checked _ _ _ _ (λ u. given _ (some_row before u, omega arith, h)))))))
 
 -- ---- the whole
@@ -161,7 +161,7 @@ primitive_valid : Gives Valid primitive
 unfolding primitive Start
 primitive_valid =
     past _ (λ a. after name_good (λ w g. after port_list_few (λ h e. after (declared_start h) (λ d f.
-    after (rows_valid_lem d.sequential (length h.inputs) row_limit [] refl (agreeing-none _ _)) (λ l v. past _ (λ b.
+    after (rows_valid_lem d.sequential (length h.inputs) row_limit [] refl (agreeing_none _ _)) (λ l v. past _ (λ b.
     given _ (record {
       name = g;
       some_input = e.0;

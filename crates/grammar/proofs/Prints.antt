@@ -35,7 +35,7 @@ use Rattle.grammar.specs.Header.{Ports, port_list, declared, declarations}
 use Rattle.grammar.specs.Rows.{Written, symbol, written_of, may_stand, column_of, state_of, output_said, saying, written, field, columns, state, row, begins_row, rows}
 use Rattle.grammar.specs.Reading.{primitive, readers, table, read}
 use Rattle.grammar.specs.Print.{symbol_text, columns_text, end_text, row_text, rows_text, letters, commas, ports_text, declared_text, kind_text, print}
-use Rattle.grammar.proofs.Fits.{Fits, fits_head, fits-tail, row_fits, Agreeing, row-among, agrees-among}
+use Rattle.grammar.proofs.Fits.{Fits, fits_head, fits_tail, row_fits, Agreeing, row_among, agrees_among}
 
 -- the place behind a text
 abbrev pub along : List ℕ → ℕ → ℕ
@@ -95,7 +95,7 @@ columns_read [] edge k r f = refl
 columns_read (s ∷ l) edge k r f =
     let q = symbol_read s k (columns_text l ++ r) in
     let e = field_read (column_of edge) s s k (columns_text l ++ r) (column_some edge s (fits_head edge s l f)) in
-    let d = columns_read l (edge && not (is_edge s)) (along (symbol_text s) k) r (fits-tail edge s l f) in
+    let d = columns_read l (edge && not (is_edge s)) (along (symbol_text s) k) r (fits_tail edge s l f) in
     rw (append_assoc, along_append, q.skipped, q.no_colon, e, d)
 
 output_read : (sequential : Bool) (o : Output) (k : ℕ) (r : List ℕ) → (sequential ≡ false → o ≡ Old → ⊥) → field (output_said sequential) k (output_byte o ∷ r) ≡ got o (suc k) r
@@ -141,12 +141,12 @@ rows_read sequential n (suc room) [] [] k r h a b v = absurd (omega arith)
 rows_read sequential n (suc room) (w ∷ before) [] k r h a b v = rw append-nil
 rows_read sequential n zero before (w ∷ l) k r h a b v = absurd (omega arith)
 rows_read sequential n (suc room) before (w ∷ l) k r h a b v =
-    let u = row-among n sequential before w l v in
+    let u = row_among n sequential before w l v in
     let e = row_begins sequential w k (rows_text sequential l ++ (32 ∷ r)) (omega (arith, u.columns)) in
     let d = row_read sequential n w k (rows_text sequential l ++ (32 ∷ r)) u in
     let g = append_assoc before (w ∷ []) l in
     let c = rows_read sequential n room (before ++ (w ∷ [])) l (along (row_text sequential w) k) r h (omega arith) (omega (arith, length-append before (w ∷ []))) (rw g v) in
-    rw (append_assoc (row_text sequential w) (rows_text sequential l) (32 ∷ r), along_append (row_text sequential w) (rows_text sequential l) k, e.0, e.1, d, agrees-among n sequential before w l v, c, g)
+    rw (append_assoc (row_text sequential w) (rows_text sequential l) (32 ∷ r), along_append (row_text sequential w) (rows_text sequential l) k, e.0, e.1, d, agrees_among n sequential before w l v, c, g)
 
 -- ---- the name
 
@@ -172,11 +172,11 @@ module _ (b : ℕ) (w : List ℕ) (h : is_name (b ∷ w) ≡ true) where
   first : starts b ≡ true
   first = (both (starts b) _ parts.0).0
 
-  all-name : all_in_name (b ∷ w) ≡ true
-  all-name = rw first (both (starts b) _ parts.0).1
+  all_name : all_in_name (b ∷ w) ≡ true
+  all_name = rw first (both (starts b) _ parts.0).1
 
-  name-skip : (k : ℕ) (r : List ℕ) → skip k ((b ∷ w) ++ r) ≡ got tt k ((b ∷ w) ++ r)
-  name-skip k r =
+  name_skip : (k : ℕ) (r : List ℕ) → skip k ((b ∷ w) ++ r) ≡ got tt k ((b ∷ w) ++ r)
+  name_skip k r =
       let l = starts_late b first in
       rw (ne_eqb b 32 (λ e. omega arith), ne_eqb b 9 (λ e. omega arith), ne_eqb b 13 (λ e. omega arith), ne_eqb b 10 (λ e. omega arith), ne_eqb b 12 (λ e. omega arith), ne_eqb b 47 (λ e. omega arith))
 
@@ -190,7 +190,7 @@ name_read w k r e = let h = both (is_name w) (leb (length w) name_limit) e in go
   where
     go : (w : List ℕ) → is_name w ≡ true → leb (length w) name_limit ≡ true → name k (32 ∷ (w ++ (40 ∷ r))) ≡ got (record { spelt = w; place = suc k }) (along w (suc k)) (40 ∷ r)
     go [] a b = absurd (no_name a)
-    go (c ∷ w) a b = rw (name-skip c w a (suc k) (40 ∷ r), run_name (c ∷ w) (suc k) 40 r (all-name c w a) refl, a, b)
+    go (c ∷ w) a b = rw (name_skip c w a (suc k) (40 ∷ r), run_name (c ∷ w) (suc k) 40 r (all_name c w a) refl, a, b)
 
 -- ---- the header, the declarations: closed text for each number of inputs
 

@@ -7,7 +7,7 @@ use native.Mathlib.Nat.{pow-suc}
 use native.Mathlib.Omega.{arith}
 use lib.Dec.{eqb}
 use borrow.Author.Tests.{eq-eqb, eqb-true, not-false}
-use Rattle.base.proofs.Search.{first-none, first_below}
+use Rattle.base.proofs.Search.{first_none, first_below}
 use Rattle.table.specs.Table.{Table}
 use Rattle.orders.specs.Verdict.{candidates}
 use Rattle.orders.specs.Digits.{digit_of, put_digit}
@@ -29,7 +29,7 @@ none_differs t i j r A =
 
 none_first : (t : Table) (i j : ℕ) → PairAgrees t i j → first_at t i j ≡ candidates t.inputs
 unfolding first_at
-none_first t i j A = first-none (differs_at t i j) (candidates t.inputs) (λ r l. none_differs t i j r A)
+none_first t i j A = first_none (differs_at t i j) (candidates t.inputs) (λ r l. none_differs t i j r A)
 
 pub agreed : (t : Table) (i j : ℕ) → i < j → j < t.inputs → PairAgrees t i j → pair_first t i j ≡ candidates t.inputs
 agreed t i j a b A = pair_first_lem t i j a b ∙ none_first t i j A
@@ -62,17 +62,17 @@ module _ (n i j : ℕ) (lt : i < j) (lj : j < n) (v a b : ℕ) (la : a < 3) (lb 
   unfolding number
   number_lt = put_lt a (n - suc i) n _ la (omega arith) (put_lt b (n - suc j) n _ lb (omega arith) (low_lt n v))
 
-  first-digit : number / 3 ^ (n - suc i) % 3 ≡ a
+  first_digit : number / 3 ^ (n - suc i) % 3 ≡ a
   unfolding number
-  first-digit = sym (digit_is number (n - suc i)) ∙ digit_same a (n - suc i) _ la
+  first_digit = sym (digit_is number (n - suc i)) ∙ digit_same a (n - suc i) _ la
 
   second_digit : number / 3 ^ (n - suc j) % 3 ≡ b
   unfolding number
   second_digit = sym (digit_is number (n - suc j)) ∙ digit_other a (n - suc i) (n - suc j) _ la (λ e. omega arith) ∙ digit_same b (n - suc j) _ lb
 
-  others-number : (s : List (List ℕ)) (all : ℕ) → others_of s all i j n number ≡ others_of s all i j n v
+  others_number : (s : List (List ℕ)) (all : ℕ) → others_of s all i j n number ≡ others_of s all i j n v
   unfolding number
-  others-number s all =
+  others_number s all =
       let p : (eqb i i || eqb i j) ≡ true = rw (eq-eqb i i refl) in
       let q : (eqb j i || eqb j j) ≡ true = rw (eq-eqb j j refl) (or-true (eqb j i)) in
       others_put s all i j i n _ a p la (omega arith) ∙ others_put s all i j j n _ b q lb lj ∙ others_low s all i j n v
@@ -91,7 +91,7 @@ no_difference t i j lt lj e v a b x y o la lb lx ly lo =
     let ex : r % 27 / 9 ≡ x = omega arith in
     let ey : r % 27 / 3 % 3 ≡ y = omega arith in
     let eo : r % 27 % 3 ≡ o = omega arith in
-    eqb-true _ _ (not-false _ (rw (ew, ex, ey, eo, first-digit n i j lt lj v a b la lb, second_digit n i j lt lj v a b la lb, others-number n i j lt lj v a b la lb (cells t) (all_rows t)) at f))
+    eqb-true _ _ (not-false _ (rw (ew, ex, ey, eo, first_digit n i j lt lj v a b la lb, second_digit n i j lt lj v a b la lb, others_number n i j lt lj v a b la lb (cells t) (all_rows t)) at f))
 
 pub agrees_by : (t : Table) (i j : ℕ) → i < j → j < t.inputs → candidates t.inputs ≤ pair_first t i j → PairAgrees t i j
 agrees_by t i j lt lj e = record {

@@ -10,7 +10,7 @@ use borrow.Author.Tests.{ltb-true, ltb-false, lt-ltb, le-ltb, not-true, not-fals
 use Rattle.base.specs.Limits.{input_limit}
 use Rattle.base.specs.Search.{first}
 use Rattle.base.proofs.Bools.{both, clash, lt_or_ge}
-use Rattle.base.proofs.Search.{first_below, first_found, first-none, first_holds}
+use Rattle.base.proofs.Search.{first_below, first_found, first_none, first_holds}
 use Rattle.value.specs.Value.{same_value}
 use Rattle.orders.specs.Order.{Step, Every}
 use Rattle.orders.specs.Verdict.{candidates, first_now, second_now, first_output, second_output, Disagrees, First}
@@ -27,7 +27,7 @@ use Rattle.verdict.specs.declared.Witness.{Witness}
 use Rattle.verdict.specs.declared.Finding.TheVariants.{Independent, Dependent}
 use Rattle.judge.specs.Search.{pair_first, pair_differs, pairs, first_pair, witness_in, finding_in}
 use Rattle.judge.specs.Judge.{Witnesses, RightFinding}
-use Rattle.judge.proofs.Ranks.{output-is, other-is, differs-is}
+use Rattle.judge.proofs.Ranks.{output_is, other_is, differs_is}
 
 -- what a pair that differs tells
 pub record Told (t : Table) (i j : ℕ) : Type 0 where
@@ -95,7 +95,7 @@ module _ (t : Table) where
   pub none_found : (p : ℕ) → input_limit * t.inputs ≤ p → ((k : ℕ) → k < p → tried k ≡ false) → Independent ≡ finding_in t
   unfolding finding_in first_pair
   none_found p h below =
-      let e : first pairs tried ≡ pairs = first-none tried pairs (λ k l. ⊎_elim (below k) (λ g. past k (omega arith)) (lt_or_ge k p)) in
+      let e : first pairs tried ≡ pairs = first_none tried pairs (λ k l. ⊎_elim (below k) (λ g. past k (omega arith)) (lt_or_ge k p)) in
       rw e
 
 -- ---- what they find
@@ -111,16 +111,16 @@ module _ (t : Table) (small : Small t) where
     apart : i ≢ j
     apart e = omega arith
 
-    agrees-of : (s : ℕ) → s < candidates n → differs_at t i j s ≡ false → Disagrees n (Every n) phi (suc i) (suc j) s → ⊥
-    agrees-of s ls e d =
-        let q = sym (differs-is t small i j (omega arith) lj apart s) ∙ e in
+    agrees_of : (s : ℕ) → s < candidates n → differs_at t i j s ≡ false → Disagrees n (Every n) phi (suc i) (suc j) s → ⊥
+    agrees_of s ls e d =
+        let q = sym (differs_is t small i j (omega arith) lj apart s) ∙ e in
         d.differ (of_same _ _ (not-false _ q))
 
-    differs-of : (s : ℕ) → s < candidates n → differs_at t i j s ≡ true → Disagrees n (Every n) phi (suc i) (suc j) s
-    differs-of s ls e = record {
+    differs_of : (s : ℕ) → s < candidates n → differs_at t i j s ≡ true → Disagrees n (Every n) phi (suc i) (suc j) s
+    differs_of s ls e = record {
       admitted = (vector_number n (s / 27), vector_put (suc j) (second_now s) (vector_put (suc i) (first_now s) (vector_number n (s / 27))));
       differ = λ q.
-          let p : not (same_value (first_output n phi (suc i) (suc j) s) (second_output n phi (suc i) (suc j) s)) ≡ true = sym (differs-is t small i j (omega arith) lj apart s) ∙ e in
+          let p : not (same_value (first_output n phi (suc i) (suc j) s) (second_output n phi (suc i) (suc j) s)) ≡ true = sym (differs_is t small i j (omega arith) lj apart s) ∙ e in
           clash (sym (same_of _ _ q) ∙ not-true _ p);
     }
 
@@ -129,7 +129,7 @@ module _ (t : Table) (small : Small t) where
     unfolding pair_differs pair_first first_at
     fine e s ls =
         let z : ltb (first (candidates n) (differs_at t i j)) (candidates n) ≡ false = rw (lt-ltb i j lt, lt-ltb j n lj) at e in
-        agrees-of s ls (first_below (differs_at t i j) (candidates n) s (omega (arith, ltb-false (first (candidates n) (differs_at t i j)) (candidates n) z)))
+        agrees_of s ls (first_below (differs_at t i j) (candidates n) s (omega (arith, ltb-false (first (candidates n) (differs_at t i j)) (candidates n) z)))
 
   module _ (most : n ≤ input_limit) where
     abbrev test : ℕ → Bool
@@ -143,10 +143,10 @@ module _ (t : Table) (small : Small t) where
         let y : (a * input_limit + b) % input_limit ≡ b = omega arith in
         fine a b lt lb (rw (x, y) at (none (a * input_limit + b) h))
 
-    first-at : (p : ℕ) → ((q : ℕ) → q < p → test q ≡ false) → test p ≡ true →
+    first_at_lem : (p : ℕ) → ((q : ℕ) → q < p → test q ≡ false) → test p ≡ true →
         First n (Every n) phi (suc (p / input_limit)) (suc (p % input_limit)) (pair_first t (p / input_limit) (p % input_limit))
     unfolding first_at
-    first-at p none here =
+    first_at_lem p none here =
         let i : ℕ = p / input_limit in
         let j : ℕ = p % input_limit in
         let k : Told t i j = told t i j here in
@@ -157,10 +157,10 @@ module _ (t : Table) (small : Small t) where
           rising = omega (arith, k.rising);
           last = k.last;
           counted = c;
-          here = differs-of i j k.rising k.last (first (candidates n) (differs_at t i j)) c (first_holds (differs_at t i j) (candidates n) c);
-          before-i = λ a b s la lt ab bn ls d. before a b s la lt ab bn ls d;
-          before-j = λ b s ib bj ls d. between b s ib bj ls d;
-          before-r = λ s ls d. agrees-of i j k.rising k.last s (omega arith) (first_below (differs_at t i j) (candidates n) s ls) d;
+          here = differs_of i j k.rising k.last (first (candidates n) (differs_at t i j)) c (first_holds (differs_at t i j) (candidates n) c);
+          before_i = λ a b s la lt ab bn ls d. before a b s la lt ab bn ls d;
+          before_j = λ b s ib bj ls d. between b s ib bj ls d;
+          before_r = λ s ls d. agrees_of i j k.rising k.last s (omega arith) (first_below (differs_at t i j) (candidates n) s ls) d;
         })
       where
         before : (a b s : ℕ) → 1 ≤ a → a < suc (p / input_limit) → a < b → b ≤ n → s < candidates n → Disagrees n (Every n) phi a b s → ⊥
@@ -172,27 +172,27 @@ module _ (t : Table) (small : Small t) where
         between zero s ib bj ls d = absurd (omega arith)
         between (suc b) s ib bj ls d = earlier p (p / input_limit) b none (omega arith) (omega (arith, (told t (p / input_limit) (p % input_limit) here).last)) (omega arith) s ls d
 
-    none-at : ((q : ℕ) → q < pairs → test q ≡ false) → (i j r : ℕ) → 1 ≤ i → i < j → j ≤ n → r < candidates n → Disagrees n (Every n) phi i j r → ⊥
-    none-at none zero j r a b c h = absurd (omega arith)
-    none-at none (suc i) zero r a b c h = absurd (omega arith)
-    none-at none (suc i) (suc j) r a b c h = earlier pairs i j none (omega arith) (omega arith) (omega arith) r h
+    none_at : ((q : ℕ) → q < pairs → test q ≡ false) → (i j r : ℕ) → 1 ≤ i → i < j → j ≤ n → r < candidates n → Disagrees n (Every n) phi i j r → ⊥
+    none_at none zero j r a b c h = absurd (omega arith)
+    none_at none (suc i) zero r a b c h = absurd (omega arith)
+    none_at none (suc i) (suc j) r a b c h = earlier pairs i j none (omega arith) (omega arith) (omega arith) r h
 
-    witness-right : (i j r : ℕ) → i < j → j < n → First n (Every n) phi (suc i) (suc j) r → Witnesses n phi (witness_in t i j r)
+    witness_right : (i j r : ℕ) → i < j → j < n → First n (Every n) phi (suc i) (suc j) r → Witnesses n phi (witness_in t i j r)
     unfolding witness_in
-    witness-right i j r lt lj w = rw (add-one i, add-one j) (record {
+    witness_right i j r lt lj w = rw (add-one i, add-one j) (record {
       candidate = r;
       first = w;
       previous = refl;
       first_now = refl;
       second_now = refl;
       old = refl;
-      first_output = rw (output-is t small i j (omega arith) lj (λ e. omega arith) r) (value_rank _);
-      second_output = rw (other-is t small i j (omega arith) lj (λ e. omega arith) r) (value_rank _);
+      first_output = rw (output_is t small i j (omega arith) lj (λ e. omega arith) r) (value_rank _);
+      second_output = rw (other_is t small i j (omega arith) lj (λ e. omega arith) r) (value_rank _);
     })
 
-    pub finding-right : RightFinding n phi (finding_in t)
+    pub finding_right : RightFinding n phi (finding_in t)
     unfolding finding_in first_pair
-    finding-right = go (ltb (first pairs test) pairs) refl
+    finding_right = go (ltb (first pairs test) pairs) refl
       where
         go : (b : Bool) → ltb (first pairs test) pairs ≡ b →
             RightFinding n phi (cond b (Dependent (witness_in t (first pairs test / input_limit) (first pairs test % input_limit) (pair_first t (first pairs test / input_limit) (first pairs test % input_limit)))) Independent)
@@ -200,5 +200,5 @@ module _ (t : Table) (small : Small t) where
             let p : ℕ = first pairs test in
             let here : test p ≡ true = first_holds test pairs (ltb-true p pairs e) in
             let k : Told t (p / input_limit) (p % input_limit) = told t (p / input_limit) (p % input_limit) here in
-            witness-right (p / input_limit) (p % input_limit) (pair_first t (p / input_limit) (p % input_limit)) k.rising k.last (first-at p (first_below test pairs) here)
-        go false e = (judged_iff (laws t n) (every_family n)).1 (none-at (λ q h. first_below test pairs q (omega (arith, ltb-false (first pairs test) pairs e))))
+            witness_right (p / input_limit) (p % input_limit) (pair_first t (p / input_limit) (p % input_limit)) k.rising k.last (first_at_lem p (first_below test pairs) here)
+        go false e = (judged_iff (laws t n) (every_family n)).1 (none_at (λ q h. first_below test pairs q (omega (arith, ltb-false (first pairs test) pairs e))))

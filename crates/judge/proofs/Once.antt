@@ -18,7 +18,7 @@ use Rattle.orders.specs.Order as order
 use Rattle.orders.specs.Pairs.{PairAgrees}
 use Rattle.orders.specs.Verdict.{dependent, candidates, first_output, second_output, First}
 use Rattle.orders.proofs.Places.{every_family}
-use Rattle.orders.proofs.Answers.{same_first, first-dependent}
+use Rattle.orders.proofs.Answers.{same_first, first_dependent}
 use Rattle.step.specs.Step.{step_of}
 use Rattle.step.proofs.Laws.{laws}
 use Rattle.verdict.specs.declared.Witness.{Witness}
@@ -44,8 +44,8 @@ same_candidate : {i j r a b s : ℕ} → dependent i j r ≡ dependent a b s →
 same_candidate e = (cc, cc, cc)
 
 module _ (n : ℕ) (phi : order.Step) (L : order.Laws n phi) where
-  same-witness : (v w : Witness) → Witnesses n phi v → Witnesses n phi w → v ≡ w
-  same-witness v w p q =
+  same_witness : (v w : Witness) → Witnesses n phi v → Witnesses n phi w → v ≡ w
+  same_witness v w p q =
       let e = same_candidate (same_first p.first q.first) in
       let a : v.first ≡ w.first = e.0 in
       let b : v.second ≡ w.second = e.1 in
@@ -58,20 +58,20 @@ module _ (n : ℕ) (phi : order.Step) (L : order.Laws n phi) where
       (p.first_output ∙ rw (r, a, b) (sym q.first_output))
       (p.second_output ∙ rw (r, a, b) (sym q.second_output))
 
-  pub one-finding : (f g : Finding) → RightFinding n phi f → RightFinding n phi g → f ≡ g
-  one-finding Independent Independent p q = refl
-  one-finding Independent (Dependent w) p q = absurd (first-dependent L (every_family n) q.first p)
-  one-finding (Dependent v) Independent p q = absurd (first-dependent L (every_family n) p.first q)
-  one-finding (Dependent v) (Dependent w) p q = ap Dependent (same-witness v w p q)
+  pub one_finding : (f g : Finding) → RightFinding n phi f → RightFinding n phi g → f ≡ g
+  one_finding Independent Independent p q = refl
+  one_finding Independent (Dependent w) p q = absurd (first_dependent L (every_family n) q.first p)
+  one_finding (Dependent v) Independent p q = absurd (first_dependent L (every_family n) p.first q)
+  one_finding (Dependent v) (Dependent w) p q = ap Dependent (same_witness v w p q)
 
   -- the finding is Independent exactly where all full orders agree for every pair of vectors and every old output
-  pub independent-exactly : (f : Finding) → RightFinding n phi f → (f ≡ Independent) ↔ order.Independent n (order.Every n) phi
-  independent-exactly Independent p = (λ _. p, λ _. refl)
-  independent-exactly (Dependent w) p = (λ e. absurd (let z : ◌≡◌ {A = ℕ} 0 1 = cc in omega arith), λ ind. absurd (first-dependent L (every_family n) p.first ind))
+  pub independent_exactly : (f : Finding) → RightFinding n phi f → (f ≡ Independent) ↔ order.Independent n (order.Every n) phi
+  independent_exactly Independent p = (λ _. p, λ _. refl)
+  independent_exactly (Dependent w) p = (λ e. absurd (let z : ◌≡◌ {A = ℕ} 0 1 = cc in omega arith), λ ind. absurd (first_dependent L (every_family n) p.first ind))
 
 -- no two answers satisfy the promise
 pub one_answer : (a : List ℕ) (p q : Judged) → Right a p → Right a q → p ≡ q
-one_answer a (Found f) (Found g) p q = ap Found (one-finding (decode a).inputs (step_of (decode a)) (laws (decode a) (decode a).inputs) f g p.1 q.1)
+one_answer a (Found f) (Found g) p q = ap Found (one_finding (decode a).inputs (step_of (decode a)) (laws (decode a) (decode a).inputs) f g p.1 q.1)
 one_answer a (Found f) (Refused number place) p q = clash (sym p.0 ∙ q.0)
 one_answer a (Refused number place) (Found g) p q = clash (sym q.0 ∙ p.0)
 one_answer a (Refused number place) (Refused other spot) p q = rw (p.1, p.2, q.1, q.2)

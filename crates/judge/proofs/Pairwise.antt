@@ -14,7 +14,7 @@ use Rattle.base.specs.Listed.{listed}
 use Rattle.base.specs.Search.{some, first}
 use Rattle.base.proofs.Bools.{lt_or_ge}
 use Rattle.base.proofs.Search.{first_below, first_holds, some_at, some_none}
-use Rattle.base.proofs.Listed.{listed-is, listed-length, listed_at, Filled}
+use Rattle.base.proofs.Listed.{listed_is, listed_length, listed_at, Filled}
 use Rattle.orders.specs.Order.{Step}
 use Rattle.orders.specs.Verdict.{candidates}
 use Rattle.table.specs.Table.{Table}
@@ -23,7 +23,7 @@ use Rattle.memo.specs.Rows.{Small}
 use Rattle.pair.specs.Search.{differs_at, first_at}
 use Rattle.judge.specs.Search.{pair_first, pair_differs, yes_in, square_in}
 use Rattle.judge.specs.Judge.{disagree, pair_yes, square_of}
-use Rattle.judge.proofs.Ranks.{differs-is}
+use Rattle.judge.proofs.Ranks.{differs_is}
 use Rattle.exchange.specs.Pairs.{Tells}
 use Rattle.judge.proofs.Findings.{no_pair}
 use Rattle.judge.proofs.Agreeing.{agreed, agrees_by}
@@ -55,23 +55,23 @@ module _ (t : Table) (small : Small t) where
       guarded (ltb i j) (ltb j n) _ _ (candidates n) (λ a b.
       let lt : i < j = ltb-true i j a in
       let lj : j < n = ltb-true j n b in
-      first_some (candidates n) (differs_at t i j) _ (λ r h. differs-is t small i j (omega arith) lj (λ e. omega arith) r))
+      first_some (candidates n) (differs_at t i j) _ (λ r h. differs_is t small i j (omega arith) lj (λ e. omega arith) r))
 
-  yes-is : (i j : ℕ) → yes_in t i j ≡ pair_yes n phi i j
+  yes_is : (i j : ℕ) → yes_in t i j ≡ pair_yes n phi i j
   unfolding yes_in pair_yes
-  yes-is i j = rw (pair_is i j, pair_is j i)
+  yes_is i j = rw (pair_is i j, pair_is j i)
 
-  pub square-right : square_in t ≡ square_of n phi
+  pub square_right : square_in t ≡ square_of n phi
   unfolding square_in square_of
-  square-right =
-      listed-is (λ (i : ℕ). listed (yes_in t i) input_limit) input_limit (listed (λ (i : ℕ). listed (pair_yes n phi i) input_limit) input_limit) []
-      (listed-length (λ (i : ℕ). listed (pair_yes n phi i) input_limit) input_limit)
+  square_right =
+      listed_is (λ (i : ℕ). listed (yes_in t i) input_limit) input_limit (listed (λ (i : ℕ). listed (pair_yes n phi i) input_limit) input_limit) []
+      (listed_length (λ (i : ℕ). listed (pair_yes n phi i) input_limit) input_limit)
       (λ i h. row i ∙ sym (listed_at (λ (i : ℕ). listed (pair_yes n phi i) input_limit) input_limit i [] h))
     where
       row : (i : ℕ) → listed (yes_in t i) input_limit ≡ listed (pair_yes n phi i) input_limit
       row i =
-          listed-is (yes_in t i) input_limit (listed (pair_yes n phi i) input_limit) true (listed-length (pair_yes n phi i) input_limit)
-          (λ j h. yes-is i j ∙ sym (listed_at (pair_yes n phi i) input_limit j true h))
+          listed_is (yes_in t i) input_limit (listed (pair_yes n phi i) input_limit) true (listed_length (pair_yes n phi i) input_limit)
+          (λ j h. yes_is i j ∙ sym (listed_at (pair_yes n phi i) input_limit j true h))
 
 -- what a loop has filled
 pub filled_at : {A : Type 0} (f : ℕ → A) (n k : ℕ) (l : List A) (d : A) → Filled f n l k → (i : ℕ) → i < k → get_or l i d ≡ f i

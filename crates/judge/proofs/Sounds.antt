@@ -5,7 +5,7 @@ use mathlib.Core.Logic.{◌≢◌}
 use native.Mathlib.Omega.{arith}
 use Rattle.orders.specs.Order.{Step, Laws, eval_order, Every}
 use Rattle.orders.specs.Verdict.{candidates, First}
-use Rattle.orders.proofs.Candidates.{both-change}
+use Rattle.orders.proofs.Candidates.{both_change}
 use Rattle.verdict.specs.declared.Witness.{Witness}
 use Rattle.verdict.specs.declared.Finding.{Finding}
 use Rattle.verdict.specs.declared.Finding.TheVariants.{Independent, Dependent}
@@ -16,7 +16,7 @@ module _ {n : ℕ} {phi : Step} (L : Laws n phi) where
   witness_sound : (w : Witness) → Witnesses n phi w → Sound n w
   witness_sound w p =
       let f : First n (Every n) phi w.first w.second p.candidate = p.first in
-      let c = both-change n phi (Every n) w.first w.second L (λ e. omega (arith, f.rising)) p.candidate f.one (omega (arith, f.rising, f.last)) (omega (arith, f.one, f.rising)) f.last f.here in
+      let c = both_change n phi (Every n) w.first w.second L (λ e. omega (arith, f.rising)) p.candidate f.one (omega (arith, f.rising, f.last)) (omega (arith, f.one, f.rising)) f.last f.here in
       record {
         from = f.one;
         apart = f.rising;

@@ -21,7 +21,7 @@ use Rattle.orders.specs.Order.{Step, Every}
 use Rattle.orders.specs.Pairs.{PairAgrees, Yes}
 use Rattle.orders.specs.Verdict.{candidates, first_now, second_now, first_output, second_output, Disagrees}
 use Rattle.orders.proofs.Places.{vector_put, every_family}
-use Rattle.orders.proofs.Candidates.{same_of, of_same, vector_number, pair-iff}
+use Rattle.orders.proofs.Candidates.{same_of, of_same, vector_number, pair_iff}
 use Rattle.evaluation.proofs.Saying.{neither}
 use Rattle.value.specs.Value.{same_value}
 use Rattle.judge.specs.Judge.{disagree, pair_yes, square_of, square_for}
@@ -32,11 +32,11 @@ some_false f n k e h false q = refl
 
 module _ (n : ℕ) (phi : Step) where
   -- no disagreement of two inputs, as a test and in the words of the theory
-  pub disagree-iff : (i j : ℕ) → (disagree n phi i j ≡ false) ↔ PairAgrees n (Every n) phi i j
+  pub disagree_iff : (i j : ℕ) → (disagree n phi i j ≡ false) ↔ PairAgrees n (Every n) phi i j
   unfolding disagree
-  disagree-iff i j = (
-    λ e. (pair-iff n phi (Every n) i j (every_family n)).1 (λ r h d. d.differ (of_same _ _ (not-false _ (some_false _ (candidates n) r e h _ refl)))),
-    λ a. some_none _ (candidates n) (λ r h. none r h (same_value (first_output n phi i j r) (second_output n phi i j r)) refl ((pair-iff n phi (Every n) i j (every_family n)).0 a r h)),
+  disagree_iff i j = (
+    λ e. (pair_iff n phi (Every n) i j (every_family n)).1 (λ r h d. d.differ (of_same _ _ (not-false _ (some_false _ (candidates n) r e h _ refl)))),
+    λ a. some_none _ (candidates n) (λ r h. none r h (same_value (first_output n phi i j r) (second_output n phi i j r)) refl ((pair_iff n phi (Every n) i j (every_family n)).0 a r h)),
   )
     where
       none : (r : ℕ) → r < candidates n → (b : Bool) → same_value (first_output n phi i j r) (second_output n phi i j r) ≡ b → (Disagrees n (Every n) phi i j r → ⊥) → not (same_value (first_output n phi i j r) (second_output n phi i j r)) ≡ false
@@ -47,10 +47,10 @@ module _ (n : ℕ) (phi : Step) where
       }))
 
   half : (i j : ℕ) → j < n → ((ltb i j && (ltb j n && disagree n phi (suc i) (suc j))) ≡ false) ↔ (suc i < suc j → PairAgrees n (Every n) phi (suc i) (suc j))
-  half i j lj = (λ e h. (disagree-iff (suc i) (suc j)).0 (rw (lt-ltb i j (omega arith), lt-ltb j n lj) at e), λ a. ⊎_elim (below a) above (lt_or_ge i j))
+  half i j lj = (λ e h. (disagree_iff (suc i) (suc j)).0 (rw (lt-ltb i j (omega arith), lt-ltb j n lj) at e), λ a. ⊎_elim (below a) above (lt_or_ge i j))
     where
       below : (suc i < suc j → PairAgrees n (Every n) phi (suc i) (suc j)) → i < j → (ltb i j && (ltb j n && disagree n phi (suc i) (suc j))) ≡ false
-      below a h = rw (lt-ltb i j h, lt-ltb j n lj) ((disagree-iff (suc i) (suc j)).1 (a (omega arith)))
+      below a h = rw (lt-ltb i j h, lt-ltb j n lj) ((disagree_iff (suc i) (suc j)).1 (a (omega arith)))
 
       above : j ≤ i → (ltb i j && (ltb j n && disagree n phi (suc i) (suc j))) ≡ false
       above h = rw (le-ltb i j h)

@@ -13,7 +13,7 @@ use Rattle.book.specs.declared.Opened.TheVariants as open-book
 use Rattle.book.specs.declared.Appended.TheVariants.{Stated}
 use Rattle.book.specs.Book.{opened, appended}
 use Rattle.book.specs.Runs.{book_of}
-use Rattle.book.proofs.Kept.{Kept, kept-opened, kept-cut}
+use Rattle.book.proofs.Kept.{Kept, kept_opened, kept_cut}
 use Rattle.keeping.specs.Keeping.{Holds}
 
 -- the file has what the book holds, and then torn bytes; f is appended to, and g is what the cut leaves
@@ -29,4 +29,4 @@ cut_shows text start book at k f front torn short h rest m e g c behind =
       fit = k.fit;
       short = short;
     } in
-    rw place at (kept-opened g k.verdicts (kept-cut f k.verdicts kept rest h m g e (rw (← place) at c)) behind)
+    rw place at (kept_opened g k.verdicts (kept_cut f k.verdicts kept rest h m g e (rw (← place) at c)) behind)

@@ -23,7 +23,7 @@ use Rattle.book.proofs.Kept.{Kept, kept_book, Accepted, accepted, fit_snoc, book
 use Rattle.grammar.proofs.Moves.{read_forward}
 use Rattle.keeping.specs.declared.Settled.TheVariants as settle
 use Rattle.keeping.specs.Keeping.{VerdictAt, no_verdict, one_verdict, Holds, standing, Settles}
-use Rattle.keeping.proofs.Standing.{stands-fit, stands-long, stands-inside, stands-bytes}
+use Rattle.keeping.proofs.Standing.{stands_fit, stands_long, stands_inside, stands_bytes}
 
 -- ---- a verdict more
 
@@ -45,29 +45,29 @@ module _ (text : List ℕ) (start next : ℕ) (book : List ℕ) (at : ℕ) (k : 
 
   kept_on : (m : ℕ) → (standing book at h ≡ 0 → ⊥) → m ≡ at + standing book at h → Holds text next book m
   kept_on m there e =
-      let z : m ≡ at + length (line_of at h) = e ∙ ap (λ (n : ℕ). at + n) (stands-long book at h there) in
-      rw z (grown book (at + length (line_of at h)) (stands-fit book at h there) (stands-inside book at h there) (stands-bytes book at h there))
+      let z : m ≡ at + length (line_of at h) = e ∙ ap (λ (n : ℕ). at + n) (stands_long book at h there) in
+      rw z (grown book (at + length (line_of at h)) (stands_fit book at h there) (stands_inside book at h there) (stands_bytes book at h there))
 
   -- ---- it is appended
 
-  opened-there : (b : Bool) (o : Opened) (found : Good → Outcome) (n m : ℕ) → (on_opened (cond b (open-book.Refused 13 n) o) found (refusal book)).answer ≡ Stated m → b ≡ false
-  opened-there true o found n m e = absurd (let z : ◌≡◌ {A = ℕ} 0 1 = cc in omega arith)
-  opened-there false o found n m e = refl
+  opened_there : (b : Bool) (o : Opened) (found : Good → Outcome) (n m : ℕ) → (on_opened (cond b (open-book.Refused 13 n) o) found (refusal book)).answer ≡ Stated m → b ≡ false
+  opened_there true o found n m e = absurd (let z : ◌≡◌ {A = ℕ} 0 1 = cc in omega arith)
+  opened_there false o found n m e = refl
 
-  not-past : (m : ℕ) → (appended book at h).answer ≡ Stated m → at ≤ limit_of book
+  not_past : (m : ℕ) → (appended book at h).answer ≡ Stated m → at ≤ limit_of book
   unfolding appended opened
-  not-past m e =
-      ltb-false (limit_of book) at (opened-there (ltb (limit_of book) at) (opened_file (take at book)) (λ g. appended_at book at g.good h) (limit_of book) m e)
+  not_past m e =
+      ltb-false (limit_of book) at (opened_there (ltb (limit_of book) at) (opened_file (take at book)) (λ g. appended_at book at g.good h) (limit_of book) m e)
 
-  added-on : (left : List ℕ) (m : ℕ) → outcome (Stated m) left ≡ appended book at h → Holds text next left m × (at < m)
-  added-on left m e =
+  added_on : (left : List ℕ) (m : ℕ) → outcome (Stated m) left ≡ appended book at h → Holds text next left m × (at < m)
+  added_on left m e =
       let f : List ℕ = take at book in
       let rest : List ℕ = drop at book in
       let line : List ℕ = line_of at h in
       let said : (appended book at h).answer ≡ Stated m = sym (ap (λ (o : Outcome). o.answer) e) in
       let whole : take at book ++ drop at book ≡ book = take-append-drop at book in
       let long : length (take at book) ≡ at = length-take-le at book k.inside in
-      let room : length (book_of k.verdicts) ≤ book_limit = omega (arith, place_is, not-past m said, (limit_le book).1) in
+      let room : length (book_of k.verdicts) ≤ book_limit = omega (arith, place_is, not_past m said, (limit_le book).1) in
       let kept : Kept (take at book) k.verdicts = subst (λ (l : List ℕ). Kept l k.verdicts) (sym k.bytes) (kept_book k.verdicts k.fit room) in
       let told : (appended (take at book ++ drop at book) (length (take at book)) h).answer ≡ Stated m = rw (whole, long) said in
       let a : Accepted (take at book) k.verdicts kept (drop at book) h m = accepted (take at book) k.verdicts kept (drop at book) h m told in
@@ -99,5 +99,5 @@ module _ (text : List ℕ) (start : ℕ) (area book : List ℕ) (at good : ℕ) 
   pub added_goes : Settles text start area book at good (settle.Added next m) left → Holds text next left m × (start < next) × (next ≤ length text) × (at < m)
   added_goes p =
       let f = ahead p.2 in
-      let a = added-on text start p.1 book at k p.0 p.2 left m p.3.2 in
+      let a = added_on text start p.1 book at k p.0 p.2 left m p.3.2 in
       rw p.3.0 (a.0, f.0, f.1, a.1)

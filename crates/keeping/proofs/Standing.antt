@@ -48,18 +48,18 @@ module _ (book : List ℕ) (s : ℕ) (h : Handed) where
         let l : length (line_of s h) ≡ w = line_long ∙ size_of h w size z s in
         rw (e, l, q)
 
-    by-fit : (a : Bool) → fits_layout h ≡ a → (b : Bool) → stands_in book s h w ≡ b → standing book s h ≡ cond b w 0
-    by-fit true e b q = fit e b q
-    by-fit false e true q = (unfit e).1 ∙ sym (unfit e).0
-    by-fit false e false q = (unfit e).1
+    by_fit : (a : Bool) → fits_layout h ≡ a → (b : Bool) → stands_in book s h w ≡ b → standing book s h ≡ cond b w 0
+    by_fit true e b q = fit e b q
+    by_fit false e true q = (unfit e).1 ∙ sym (unfit e).0
+    by_fit false e false q = (unfit e).1
 
     compared : (b : Bool) → b ≡ stands_in book s h w → cond b w 0 ≡ standing book s h
-    compared b q = sym (by-fit (fits_layout h) refl b (sym q))
+    compared b q = sym (by_fit (fits_layout h) refl b (sym q))
 
   -- as two calls hand the verdict over
-  pub standing-is : (h₁ h₂ : Handed) → h₁ ≡ h → h₂ ≡ h → (w : ℕ) → w ≡ cond (fits_layout h₁) (suc (length (entry 0 (draft h₁)))) 0
+  pub standing_is : (h₁ h₂ : Handed) → h₁ ≡ h → h₂ ≡ h → (w : ℕ) → w ≡ cond (fits_layout h₁) (suc (length (entry 0 (draft h₁)))) 0
       → (b : Bool) → b ≡ stands_in book s h₂ w → cond b w 0 ≡ standing book s h
-  standing-is h₁ h₂ e₁ e₂ w size b q =
+  standing_is h₁ h₂ e₁ e₂ w size b q =
       compared w (subst (λ (x : Handed). w ≡ cond (fits_layout x) (suc (length (entry 0 (draft x)))) 0) e₁ size)
       b (subst (λ (x : Handed). b ≡ stands_in book s x w) e₂ q)
 
@@ -75,30 +75,30 @@ module _ (book : List ℕ) (s : ℕ) (h : Handed) where
     unfolding standing
     tests = by_tests (fits_layout h) (stands_in book s h (length (line_of s h))) (length (line_of s h)) there
 
-    pub stands-fit : fits_layout h ≡ true
-    stands-fit = tests.0
+    pub stands_fit : fits_layout h ≡ true
+    stands_fit = tests.0
 
-    pub stands-long : standing book s h ≡ length (line_of s h)
-    stands-long = tests.2
+    pub stands_long : standing book s h ≡ length (line_of s h)
+    stands_long = tests.2
 
-    byte-there : (k : ℕ) → k < length (line_of s h) → get_or book (s + k) 0 ≡ get_or (line_of s h) k 0
+    byte_there : (k : ℕ) → k < length (line_of s h) → get_or book (s + k) 0 ≡ get_or (line_of s h) k 0
     unfolding stands_in
-    byte-there k l =
+    byte_there k l =
         eqb-true _ _ (every_at _ (length (line_of s h)) k tests.1 l)
-        ∙ ap (λ (v : words.Verdict). get_or (entry s v ++ (LF ∷ [])) k 0) (draft_verdict h (parts_of h stands-fit).found)
+        ∙ ap (λ (v : words.Verdict). get_or (entry s v ++ (LF ∷ [])) k 0) (draft_verdict h (parts_of h stands_fit).found)
 
     -- the last byte is no zero, so the book reaches as far
-    pub stands-inside : s + length (line_of s h) ≤ length book
-    stands-inside =
+    pub stands_inside : s + length (line_of s h) ≤ length book
+    stands_inside =
         let k : ℕ = length (entry s (verdict_of h)) in
-        let e : get_or book (s + k) 0 ≡ LF = byte-there k (omega (arith, line_long)) ∙ get_or-append_seam (entry s (verdict_of h)) LF [] 0 in
+        let e : get_or book (s + k) 0 ≡ LF = byte_there k (omega (arith, line_long)) ∙ get_or-append_seam (entry s (verdict_of h)) LF [] 0 in
         ⊎_elim (λ (l : s + k < length book). omega (arith, line_long)) (λ (g : length book ≤ s + k). absurd (omega (arith, e, get_or-eq_default book 0 {n = s + k} g))) (lt_or_ge (s + k) (length book))
 
-    pub stands-bytes : take (s + length (line_of s h)) book ≡ take s book ++ line_of s h
-    stands-bytes =
+    pub stands_bytes : take (s + length (line_of s h)) book ≡ take s book ++ line_of s h
+    stands_bytes =
         let n : ℕ = length (line_of s h) in
-        let l : length (take (length (line_of s h)) (drop s book)) ≡ length (line_of s h) = length-take-le (length (line_of s h)) (drop s book) (omega (arith, length-drop s book, stands-inside)) in
+        let l : length (take (length (line_of s h)) (drop s book)) ≡ length (line_of s h) = length-take-le (length (line_of s h)) (drop s book) (omega (arith, length-drop s book, stands_inside)) in
         take-add s n book
         ∙ ap (λ (r : List ℕ). take s book ++ r)
         (ext_get_or 0 (take n (drop s book)) (line_of s h) l
-        (λ k q. get_or-take n (drop s book) k 0 (omega (arith, l)) ∙ get_or-drop s book k 0 ∙ byte-there k (omega (arith, l))))
+        (λ k q. get_or-take n (drop s book) k 0 (omega (arith, l)) ∙ get_or-drop s book k 0 ∙ byte_there k (omega (arith, l))))

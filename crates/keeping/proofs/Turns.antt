@@ -38,8 +38,8 @@ added_here h next book at good End left g p = p
 added_here h next book at good (Refused c q) left g p = (g, p.1)
 
 module _ (text : List ℕ) (start next : ℕ) (a b : List ℕ) (f : Finding) (w : NextIs text start a (Verdict f next) b) where
-  verdict-of : VerdictAt text start next (handed (decode b) f)
-  verdict-of = record {
+  verdict_of_lem : VerdictAt text start next (handed (decode b) f)
+  verdict_of_lem = record {
     it = w.0;
     comes = w.1;
     right = w.3;
@@ -47,8 +47,8 @@ module _ (text : List ℕ) (start next : ℕ) (a b : List ℕ) (f : Finding) (w 
   }
 
   pub settled : (book : List ℕ) (at good : ℕ) (r : Settled) (left : List ℕ) → Places (handed (decode b) f) next book at good r left → Settles text start a book at good r left
-  settled book at good (Kept n e) left p = (handed (decode b) f, next, verdict-of, p)
-  settled book at good (Added n e) left p = (handed (decode b) f, next, verdict-of, p)
-  settled book at good Differs left p = (handed (decode b) f, next, verdict-of, p)
+  settled book at good (Kept n e) left p = (handed (decode b) f, next, verdict_of_lem, p)
+  settled book at good (Added n e) left p = (handed (decode b) f, next, verdict_of_lem, p)
+  settled book at good Differs left p = (handed (decode b) f, next, verdict_of_lem, p)
   settled book at good End left p = absurd p
-  settled book at good (Refused c q) left p = inr (handed (decode b) f, next, verdict-of, p)
+  settled book at good (Refused c q) left p = inr (handed (decode b) f, next, verdict_of_lem, p)

@@ -24,8 +24,8 @@ use Rattle.planes.proofs.Bits.{bit_and_lem, bit_ext, bit_past}
 use Rattle.planes.proofs.Answers.{row_in}
 use Rattle.planes.proofs.Planes.{last_of}
 use Rattle.plain.specs.Plain.{Only, Plain}
-use Rattle.plain.proofs.Alike.{plain-agree}
-use Rattle.lanes.proofs.Tops.{matching-bit, matching-past, matching-in}
+use Rattle.plain.proofs.Alike.{plain_agree}
+use Rattle.lanes.proofs.Tops.{matching_bit, matching_past, matching_in}
 
 -- the digits of the columns other than i and j
 squeeze : ℕ → ℕ → ℕ → ℕ → ℕ
@@ -87,9 +87,9 @@ module _ (s : List (List ℕ)) (all i j n t u v m : ℕ) (g : List ℕ) (et : t 
   -- three columns come off
   three : (c r : ℕ) → bit (matching s all i j n c) r ≡ (bit (matching s all i j (v - 1) (c / 27)) r && (lane_at s t (c % 3) r && (lane_at s u (c / 3 % 3) r && lane_at s v (c / 9 % 3) r)))
   three c r =
-      let a : bit (matching s all i j n c) r ≡ (bit (matching s all i j (t - 1) (c / 3)) r && lane_at s t (c % 3) r) = rw et (matching-bit i j s all n c r) in
-      let b : bit (matching s all i j (t - 1) (c / 3)) r ≡ (bit (matching s all i j (u - 1) (c / 3 / 3)) r && lane_at s u (c / 3 % 3) r) = rw eu (matching-bit i j s all (t - 1) (c / 3) r) in
-      let d : bit (matching s all i j (u - 1) (c / 3 / 3)) r ≡ (bit (matching s all i j (v - 1) (c / 3 / 3 / 3)) r && lane_at s v (c / 3 / 3 % 3) r) = rw ev (matching-bit i j s all (u - 1) (c / 3 / 3) r) in
+      let a : bit (matching s all i j n c) r ≡ (bit (matching s all i j (t - 1) (c / 3)) r && lane_at s t (c % 3) r) = rw et (matching_bit i j s all n c r) in
+      let b : bit (matching s all i j (t - 1) (c / 3)) r ≡ (bit (matching s all i j (u - 1) (c / 3 / 3)) r && lane_at s u (c / 3 % 3) r) = rw eu (matching_bit i j s all (t - 1) (c / 3) r) in
+      let d : bit (matching s all i j (u - 1) (c / 3 / 3)) r ≡ (bit (matching s all i j (v - 1) (c / 3 / 3 / 3)) r && lane_at s v (c / 3 / 3 % 3) r) = rw ev (matching_bit i j s all (u - 1) (c / 3 / 3) r) in
       let p : c / 3 / 3 / 3 ≡ c / 27 = omega arith in
       let q : c / 3 / 3 ≡ c / 9 = omega arith in
       a ∙ rw (b, d, p, q) (regroup (bit (matching s all i j (v - 1) (c / 27)) r) (lane_at s v (c / 9 % 3) r) (lane_at s u (c / 3 % 3) r) (lane_at s t (c % 3) r))
@@ -104,14 +104,14 @@ module _ (s : List (List ℕ)) (all i j n t u v m : ℕ) (g : List ℕ) (et : t 
   split : (c : ℕ) → matching s all i j n c ≡ bit_and (matching s all i j (v - 1) (c / 27)) (lane_rows g (c % 27))
   split c = bit_ext _ _ (λ r. ⊎_elim
       (λ (l : r < m). three c r ∙ rw (← lane_of c r l) (sym (bit_and_lem (matching s all i j (v - 1) (c / 27)) (lane_rows g (c % 27)) r)))
-      (λ (l : m ≤ r). matching-past i j s all n c r (few r l) ∙ sym (bit_and_lem (matching s all i j (v - 1) (c / 27)) (lane_rows g (c % 27)) r ∙ rw (matching-past i j s all (v - 1) (c / 27) r (few r l))))
+      (λ (l : m ≤ r). matching_past i j s all n c r (few r l) ∙ sym (bit_and_lem (matching s all i j (v - 1) (c / 27)) (lane_rows g (c % 27)) r ∙ rw (matching_past i j s all (v - 1) (c / 27) r (few r l))))
       (lt_or_ge r m))
 
 module _ (t : Table) (s : List (List ℕ)) (outs : List ℕ) (all i j n : ℕ) (d : Given t s outs n i j) (ea : all ≡ all_rows t) where
-  pub pair-by : (p q w m : ℕ) (g : List ℕ) (b : Bool) → p ≡ top_of i j n → q ≡ top_of i j (p - 1) → w ≡ top_of i j (q - 1) → m ≡ length t.rows → Lanes s p q w m g →
+  pub pair_by : (p q w m : ℕ) (g : List ℕ) (b : Bool) → p ≡ top_of i j n → q ≡ top_of i j (p - 1) → w ≡ top_of i j (q - 1) → m ≡ length t.rows → Lanes s p q w m g →
       OuterTell s outs g n i j (w - 1) all b → Tells t i j b
   unfolding all_rows
-  pair-by p q w m g b ep eq ew em lanes a = record {
+  pair_by p q w m g b ep eq ew em lanes a = record {
     sound = λ y. record {
       at = λ v.
           let c = squeeze i j n v in
@@ -119,7 +119,7 @@ module _ (t : Table) (s : List (List ℕ)) (outs : List ℕ) (all i j n : ℕ) (
           rw (d.cells_are, ea, d.inputs_are) at r;
     };
     whole = λ y. a.whole t d (λ c l lt.
-        rw (others_wide s all i j n (c * 27 + l), lane-parts c l lt) at (vector y (widen i j n (c * 27 + l))));
+        rw (others_wide s all i j n (c * 27 + l), lane_parts c l lt) at (vector y (widen i j n (c * 27 + l))));
   }
     where
       few : (r : ℕ) → m ≤ r → bit all r ≡ false
@@ -131,8 +131,8 @@ module _ (t : Table) (s : List (List ℕ)) (outs : List ℕ) (all i j n : ℕ) (
       vector : PairAgrees t i j → (v : ℕ) → Agree t s i j (others_of s all i j n v)
       vector y v = rw (d.cells_are, ea, d.inputs_are) (y.at v)
 
-      lane-parts : (c l : ℕ) → l < 27 → matching s all i j n (c * 27 + l) ≡ bit_and (matching s all i j (w - 1) c) (lane_rows g l)
-      lane-parts c l lt =
+      lane_parts : (c l : ℕ) → l < 27 → matching s all i j n (c * 27 + l) ≡ bit_and (matching s all i j (w - 1) c) (lane_rows g l)
+      lane_parts c l lt =
           let x : (c * 27 + l) / 27 ≡ c = omega arith in
           let y : (c * 27 + l) % 27 ≡ l = omega arith in
           rw (x, y) at (parts (c * 27 + l))

@@ -1,31 +1,29 @@
 -- What the reading of a line finds. Assumes nothing.
-use mathlib.Core.Path.{◌≡◌, refl, sym, ap, ap₂, ◌∙◌}
-use mathlib.Core.Logic.{◌≢◌, ⊎_elim}
-use mathlib.Core.Bool.{Bool, true, false, cond, ◌&&◌}
+use mathlib.Core.Path.{◌≡◌, refl, sym, ap, ◌∙◌}
+use mathlib.Core.Logic.{◌≢◌}
+use mathlib.Core.Bool.{true, false, cond, ◌&&◌}
 use mathlib.Core.List.{List, [], ◌∷◌, ◌++◌, map}
-use Prim.Native.Nat.{ℕ, zero, suc, ◌+◌, ◌-◌, ◌*◌, ◌^◌, ◌≤◌, ◌<◌}
-use native.Mathlib.Nat.{pow-le-pow_right, min-eq_left}
+use Prim.Native.Nat.{ℕ, suc, ◌+◌, ◌-◌, ◌*◌, ◌^◌, ◌≤◌, ◌<◌}
+use native.Mathlib.Nat.{pow-le-pow_right}
 use native.Mathlib.Numerals.{add-one}
 use native.Mathlib.Omega.{arith}
 use borrow.Author.Tests.{eq-eqb, ne_eqb}
 use lib.Dec.{eqb, lit<}
-use lib.ListN.{length, get_or, take, length-map, length-take, length-append, get_or-append}
-use lib.Seq.{take-suc, take_all, take-take, length-take-le, ext_get_or}
+use lib.ListN.{length, get_or, take, length-map, get_or-append}
+use lib.Seq.{take-suc, take_all, length-take-le}
 use Rattle.base.specs.Limits.{input_limit}
 use Rattle.base.specs.Search.{every}
-use Rattle.base.proofs.Search.{every-fails, every_more}
-use Rattle.base.proofs.Bools.{both, and, clash}
+use Rattle.base.proofs.Search.{every_fails}
 use Rattle.value.specs.Value.{rank_of}
 use Rattle.value.specs.declared.Ternary.{Ternary}
 use Rattle.verdict.specs.Numbers.{number_from}
-use Rattle.orders.proofs.Candidates.{rank_low}
 use Rattle.verdict.proofs.Numbers.{number_snoc, number_below}
 use Rattle.files.specs.Files.{LF}
 use Rattle.files.proofs.Parts.{part_short}
 use Rattle.entry.specs.Entry.{space, entry}
 use Rattle.handed.specs.Handed.{Handed, verdict_of, fits_layout}
 use Rattle.entry.specs.Draft.{draft}
-use Rattle.entry.proofs.Sizes.{unfit-of, fit_of, drafted-of, size_of}
+use Rattle.entry.proofs.Sizes.{unfit_of, fit_of, drafted_of, size_of}
 use Rattle.line.specs.Told.{value_in, number_in, told_by, hand_of, handed_by, same_bytes, is_entry}
 use Rattle.line.specs.declared.Told.{Told}
 
@@ -77,14 +75,14 @@ value_some f j k b v e p q = rw (← e, ← p) q
 
 module _ (l : List ℕ) (s : ℕ) (h : Handed) (w : ℕ) (size : w ≡ cond (fits_layout h) (suc (length (entry 0 (draft h)))) 0) where
   pub unfit : w ≡ 0 → fits_layout h && same_bytes l (entry s (verdict_of h)) ≡ false
-  unfit z = rw (unfit-of h w size z)
+  unfit z = rw (unfit_of h w size z)
 
   module _ (z : w ≢ 0) where
     fit : fits_layout h ≡ true
     fit = fit_of h w size z
 
-    meant-here : draft h ≡ verdict_of h
-    meant-here = drafted-of h w size z
+    meant_here : draft h ≡ verdict_of h
+    meant_here = drafted_of h w size z
 
     long : length (entry s (verdict_of h)) ≡ w - 1
     long = omega (arith, size_of h w size z s)
@@ -93,20 +91,20 @@ module _ (l : List ℕ) (s : ℕ) (h : Handed) (w : ℕ) (size : w ≡ cond (fit
     other_length n = rw (fit, ne_eqb (length l) (length (entry s (verdict_of h))) (λ e. n (sym (e ∙ long))))
 
     module _ (n : w - 1 ≡ length l) where
-      byte-here : (k b : ℕ) → k < length l → b ≡ get_or (entry s (draft h) ++ (LF ∷ [])) k 0 → b ≡ get_or (entry s (verdict_of h)) k 0
-      byte-here k b g e =
+      byte_here : (k b : ℕ) → k < length l → b ≡ get_or (entry s (draft h) ++ (LF ∷ [])) k 0 → b ≡ get_or (entry s (verdict_of h)) k 0
+      byte_here k b g e =
           e
-          ∙ ap (λ v. get_or (entry s v ++ (LF ∷ [])) k 0) meant-here
+          ∙ ap (λ v. get_or (entry s v ++ (LF ∷ [])) k 0) meant_here
           ∙ get_or-append (entry s (verdict_of h)) (LF ∷ []) 0 k (omega (arith, long))
 
       pub other_byte : (k b : ℕ) → k < length l → b ≡ get_or (entry s (draft h) ++ (LF ∷ [])) k 0 → (get_or l k 0 ≡ b → ⊥) → fits_layout h && same_bytes l (entry s (verdict_of h)) ≡ false
       other_byte k b g e d =
           rw (fit, eq-eqb (length l) (length (entry s (verdict_of h))) (sym n ∙ sym long))
-          (every-fails (λ m. eqb (get_or l m 0) (get_or (entry s (verdict_of h)) m 0)) (length l) k g
-          (ne_eqb (get_or l k 0) (get_or (entry s (verdict_of h)) k 0) (λ x. d (x ∙ sym (byte-here k b g e)))))
+          (every_fails (λ m. eqb (get_or l m 0) (get_or (entry s (verdict_of h)) m 0)) (length l) k g
+          (ne_eqb (get_or l k 0) (get_or (entry s (verdict_of h)) k 0) (λ x. d (x ∙ sym (byte_here k b g e)))))
 
       pub same_byte : (k b : ℕ) → k < length l → b ≡ get_or (entry s (draft h) ++ (LF ∷ [])) k 0 → get_or l k 0 ≡ b → eqb (get_or l k 0) (get_or (entry s (verdict_of h)) k 0) ≡ true
-      same_byte k b g e d = eq-eqb (get_or l k 0) (get_or (entry s (verdict_of h)) k 0) (d ∙ byte-here k b g e)
+      same_byte k b g e d = eq-eqb (get_or l k 0) (get_or (entry s (verdict_of h)) k 0) (d ∙ byte_here k b g e)
 
       pub all_same : (k : ℕ) → length l ≤ k → k ≤ length l → every k (λ m. eqb (get_or l m 0) (get_or (entry s (verdict_of h)) m 0)) ≡ true → fits_layout h && same_bytes l (entry s (verdict_of h)) ≡ true
       all_same k g i e =

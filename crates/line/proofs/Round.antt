@@ -1,13 +1,13 @@
 -- A verdict that fits, written and read again, is the same; and a line is an entry just where it is some fitting verdict's. Assumes nothing.
 use mathlib.Core.Path.{◌≡◌, refl, sym, ap, ap₂, ◌∙◌}
-use mathlib.Core.Logic.{◌≢◌, ◌↔◌, ⊎_elim}
-use mathlib.Core.Bool.{Bool, true, false, cond, ◌&&◌}
+use mathlib.Core.Logic.{◌↔◌, ⊎_elim}
+use mathlib.Core.Bool.{true}
 use mathlib.Core.List.{List, [], ◌∷◌, ◌++◌, map, append_assoc}
-use Prim.Native.Nat.{ℕ, zero, suc, ◌+◌, ◌-◌, ◌*◌, ◌/◌, ◌%◌, ◌≤◌, ◌<◌}
+use Prim.Native.Nat.{ℕ, zero, suc, ◌-◌, ◌≤◌, ◌<◌}
 use Prim.Native.Char.{code}
 use native.Mathlib.Omega.{arith}
-use borrow.Author.Tests.{eq-eqb, ne_eqb, lt-ltb, le-ltb, eqb-true}
-use lib.Dec.{eqb, ltb}
+use borrow.Author.Tests.{eq-eqb, lt-ltb, le-ltb, eqb-true}
+use lib.Dec.{eqb}
 use lib.ListN.{length, get_or, take, length-map}
 use lib.Seq.{take_all, take-append_seam, ext_get_or}
 use Rattle.base.specs.Limits.{input_limit}
@@ -17,19 +17,17 @@ use Rattle.base.proofs.Bools.{both, and, lt_or_ge}
 use Rattle.value.specs.Value.{byte_of, read_byte}
 use Rattle.value.specs.declared.Ternary.{Ternary}
 use Rattle.value.specs.declared.Ternary.TheVariants.{V0, V1, Vx}
-use Rattle.text.specs.Words.{name_fits}
-use Rattle.orders.specs.Vectors.{at, vector_of}
-use Rattle.orders.specs.Pairs.{pair_order}
+use Rattle.orders.specs.Vectors.{at}
 use Rattle.verdict.specs.Numbers.{number_from}
 use Rattle.verdict.specs.Verdict as words
-use Rattle.verdict.specs.Meaning.{before, now, shown, meant, Sound, SoundFinding}
+use Rattle.verdict.specs.Meaning.{before, now, shown, meant, Sound}
 use Rattle.verdict.specs.declared.Witness.{Witness}
 use Rattle.verdict.specs.declared.Finding.{Finding}
 use Rattle.verdict.specs.declared.Finding.TheVariants.{Independent, Dependent}
 use Rattle.orders.proofs.Candidates.{length_vector_of}
 use Rattle.verdict.proofs.Numbers.{number_vector}
 use Rattle.verdict.proofs.Meaning.{now_length, now_first, now_second}
-use Rattle.files.specs.Parts.{join, part_at}
+use Rattle.files.specs.Parts.{join}
 use Rattle.files.proofs.Parts.{part_join}
 use Rattle.entry.specs.Entry.{space, digit_of, decimal, witness_fields, finding_fields, fields, trailer, entry, Fitting}
 use Rattle.handed.specs.Handed.{Handed, verdict_of, fits_layout}
@@ -82,8 +80,8 @@ module _ (s : ℕ) (h : Handed) (p : Parts h) where
       rw (append_assoc h.name (space ∷ join space (decimal h.inputs ∷ decimal h.rows ∷ finding_fields (meant h.inputs h.finding))) (trailer s))
       (take-append_seam h.name ((space ∷ join space (decimal h.inputs ∷ decimal h.rows ∷ finding_fields (meant h.inputs h.finding))) ++ trailer s))
 
-  inputs-back : number_in (field_in 1 line) ≡ h.inputs
-  inputs-back = ap number_in (field 1 (omega arith)) ∙ number_decimal h.inputs (omega (arith, p.few_inputs))
+  inputs_back : number_in (field_in 1 line) ≡ h.inputs
+  inputs_back = ap number_in (field 1 (omega arith)) ∙ number_decimal h.inputs (omega (arith, p.few_inputs))
 
   rows_back : number_in (field_in 2 line) ≡ h.rows
   rows_back = ap number_in (field 2 (omega arith)) ∙ number_decimal h.rows (omega (arith, p.few_rows))
@@ -105,61 +103,61 @@ module _ (s : ℕ) (h : Handed) (p : Parts h) (w : Witness) (e : h.finding ≡ D
   unfolding n
   sound = rw e at p.found
 
-  told-field : (m : ℕ) → m < 8 → field_in (suc (suc (suc m))) l ≡ get_or (witness_fields (shown n w)) m []
+  told_field : (m : ℕ) → m < 8 → field_in (suc (suc (suc m))) l ≡ get_or (witness_fields (shown n w)) m []
   unfolding n l line meant
-  told-field m g =
+  told_field m g =
       let q : finding_fields (meant h.inputs h.finding) ≡ witness_fields (shown n w) = ap (λ (f : Finding). finding_fields (meant h.inputs f)) e in
       later s h p m (rw q g) ∙ ap (λ (f : List (List ℕ)). get_or f m []) q
 
-  byte-of : (m k : ℕ) → m < 8 → byte_in (suc (suc (suc m))) k l ≡ get_or (get_or (witness_fields (shown n w)) m []) k 0
-  byte-of m k g = ap (λ (f : List ℕ). get_or f k 0) (told-field m g)
+  byte_of_lem : (m k : ℕ) → m < 8 → byte_in (suc (suc (suc m))) k l ≡ get_or (get_or (witness_fields (shown n w)) m []) k 0
+  byte_of_lem m k g = ap (λ (f : List ℕ). get_or f k 0) (told_field m g)
 
   first_back : byte_in 7 0 l - 48 ≡ w.first
   unfolding n shown
-  first_back = ap (λ (b : ℕ). b - 48) (byte-of 4 0 (omega arith)) ∙ digit_back w.first (omega (arith, sound.apart, sound.to, p.few_inputs))
+  first_back = ap (λ (b : ℕ). b - 48) (byte_of_lem 4 0 (omega arith)) ∙ digit_back w.first (omega (arith, sound.apart, sound.to, p.few_inputs))
 
   second_back : byte_in 7 1 l - 48 ≡ w.second
   unfolding n shown
-  second_back = ap (λ (b : ℕ). b - 48) (byte-of 4 1 (omega arith)) ∙ digit_back w.second (omega (arith, sound.to, p.few_inputs))
+  second_back = ap (λ (b : ℕ). b - 48) (byte_of_lem 4 1 (omega arith)) ∙ digit_back w.second (omega (arith, sound.to, p.few_inputs))
 
-  previous-back : number_from 0 (map value_in (take input_limit (field_in 4 l))) ≡ w.previous
+  previous_back : number_from 0 (map value_in (take input_limit (field_in 4 l))) ≡ w.previous
   unfolding n shown
-  previous-back =
-      ap (λ (f : List ℕ). number_from 0 (map value_in (take input_limit f))) (told-field 1 (omega arith))
+  previous_back =
+      ap (λ (f : List ℕ). number_from 0 (map value_in (take input_limit f))) (told_field 1 (omega arith))
       ∙ ap (λ (f : List ℕ). number_from 0 (map value_in f)) (take_all input_limit (map byte_of (before n w)) (omega (arith, length-map (before n w) byte_of, length_vector_of n w.previous, p.few_inputs)))
       ∙ ap (number_from 0) (values_bytes (before n w))
       ∙ number_vector n w.previous sound.small
 
-  now-back : (j : ℕ) (b : ℕ) → b ≡ j → 1 ≤ j → j ≤ n → value_in (byte_in 5 (b - 1) l) ≡ at (now n w) j
+  now_back : (j : ℕ) (b : ℕ) → b ≡ j → 1 ≤ j → j ≤ n → value_in (byte_in 5 (b - 1) l) ≡ at (now n w) j
   unfolding n shown
-  now-back zero b q a c = absurd (omega arith)
-  now-back (suc j) b q a c =
+  now_back zero b q a c = absurd (omega arith)
+  now_back (suc j) b q a c =
       let z : b - 1 ≡ j = omega arith in
       rw z
-      (ap value_in (byte-of 2 j (omega arith) ∙ map_at byte_of (now n w) j V0 (omega (arith, now_length n w))) ∙ value_byte (get_or (now n w) j V0))
+      (ap value_in (byte_of_lem 2 j (omega arith) ∙ map_at byte_of (now n w) j V0 (omega (arith, now_length n w))) ∙ value_byte (get_or (now n w) j V0))
 
-  lone-back : (m : ℕ) (x : Ternary) → m < 8 → get_or (witness_fields (shown n w)) m [] ≡ byte_of x ∷ [] → value_in (byte_in (suc (suc (suc m))) 0 l) ≡ x
-  lone-back m x g q = ap value_in (byte-of m 0 g ∙ ap (λ (f : List ℕ). get_or f 0 0) q) ∙ value_byte x
+  lone_back : (m : ℕ) (x : Ternary) → m < 8 → get_or (witness_fields (shown n w)) m [] ≡ byte_of x ∷ [] → value_in (byte_in (suc (suc (suc m))) 0 l) ≡ x
+  lone_back m x g q = ap value_in (byte_of_lem m 0 g ∙ ap (λ (f : List ℕ). get_or f 0 0) q) ∙ value_byte x
 
-  witness-back : witness_in l ≡ w
+  witness_back : witness_in l ≡ w
   unfolding witness_in shown
-  witness-back =
+  witness_back =
       rw (
-        now-back w.first (byte_in 7 0 l - 48) first_back sound.from (omega (arith, sound.apart, sound.to)),
-        now-back w.second (byte_in 7 1 l - 48) second_back (omega (arith, sound.from, sound.apart)) sound.to,
+        now_back w.first (byte_in 7 0 l - 48) first_back sound.from (omega (arith, sound.apart, sound.to)),
+        now_back w.second (byte_in 7 1 l - 48) second_back (omega (arith, sound.from, sound.apart)) sound.to,
         now_first n w sound,
         now_second n w sound,
         first_back,
         second_back,
-        previous-back,
-        lone-back 3 w.old (omega arith) refl,
-        lone-back 5 w.first_output (omega arith) refl,
-        lone-back 7 w.second_output (omega arith) refl,
+        previous_back,
+        lone_back 3 w.old (omega arith) refl,
+        lone_back 5 w.first_output (omega arith) refl,
+        lone_back 7 w.second_output (omega arith) refl,
       )
 
-  dependent-back : finding_in l ≡ h.finding
+  dependent_back : finding_in l ≡ h.finding
   unfolding shown
-  dependent-back = rw (byte-of 0 0 (omega arith), witness-back) (sym e)
+  dependent_back = rw (byte_of_lem 0 0 (omega arith), witness_back) (sym e)
 
 independent_back : (s : ℕ) (h : Handed) → Parts h → h.finding ≡ Independent → finding_in (entry s (verdict_of h)) ≡ h.finding
 unfolding meant line
@@ -174,14 +172,14 @@ independent_back s h p e =
 finding_back : (s : ℕ) (h : Handed) → Parts h → (f : Finding) → h.finding ≡ f → finding_in (entry s (verdict_of h)) ≡ h.finding
 unfolding l
 finding_back s h p Independent e = independent_back s h p e
-finding_back s h p (Dependent w) e = dependent-back s h p w e
+finding_back s h p (Dependent w) e = dependent_back s h p w e
 
 pub told_entry : (s : ℕ) (h : Handed) → fits_layout h ≡ true →
     told_by (entry s (verdict_of h)) ≡ record { name_length = length h.name; inputs = h.inputs; rows = h.rows; finding = h.finding }
 unfolding told_by line
 told_entry s h f =
     let p : Parts h = parts_of h f in
-    rw (name_back s h p, inputs-back s h p, rows_back s h p, finding_back s h p h.finding refl)
+    rw (name_back s h p, inputs_back s h p, rows_back s h p, finding_back s h p h.finding refl)
 
 -- an entry written and read back is the same verdict
 pub handed_entry : (s : ℕ) (h : Handed) → fits_layout h ≡ true → handed_by (entry s (verdict_of h)) ≡ h

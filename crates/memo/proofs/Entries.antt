@@ -59,22 +59,22 @@ every_one (suc n) j f e h =
     (eq-or-lt_of_le (le_of_suc-le-suc h))
 
 module _ (t : Table) where
-  pub cell-is : (k c : ℕ) → k ≤ input_limit → c < 12 → cell_at (cells t) k c ≡ offered_rows t k c
+  pub cell_is : (k c : ℕ) → k ≤ input_limit → c < 12 → cell_at (cells t) k c ≡ offered_rows t k c
   unfolding cell_at cells cell_row
-  cell-is k c h l = ap (λ (r : List ℕ). get_or r c 0) (listed_at (cell_row t) (input_limit + 1) k [] (omega arith)) ∙ listed_at (offered_rows t k) 12 c 0 l
+  cell_is k c h l = ap (λ (r : List ℕ). get_or r c 0) (listed_at (cell_row t) (input_limit + 1) k [] (omega arith)) ∙ listed_at (offered_rows t k) 12 c 0 l
 
   held : ℕ → Ternary → ℕ → Bool
   held i y q = match_held (symbol_at (row_at t i) q) y
 
   -- a value that is offered, a change, and the old output that is offered to the state
-  value-rows : (k c : ℕ) → k < t.inputs → c < 3 → offered_rows t k c ≡ mask_of (length t.rows) (λ (i : ℕ). held i (value_of c) k)
+  value_rows : (k c : ℕ) → k < t.inputs → c < 3 → offered_rows t k c ≡ mask_of (length t.rows) (λ (i : ℕ). held i (value_of c) k)
   unfolding offered_rows column_of offered held
-  value-rows k c h l = rw (lt-ltb k t.inputs h, lt-ltb c 3 l)
+  value_rows k c h l = rw (lt-ltb k t.inputs h, lt-ltb c 3 l)
 
-  change-rows : (k x d : ℕ) → k < t.inputs → x < 3 → d < 3 →
+  change_rows : (k x d : ℕ) → k < t.inputs → x < 3 → d < 3 →
       offered_rows t k (3 + (x * 3 + d)) ≡ mask_of (length t.rows) (λ (i : ℕ). match_change (symbol_at (row_at t i) k) (value_of x) (value_of d))
   unfolding offered_rows column_of offered
-  change-rows k x d h lx ld =
+  change_rows k x d h lx ld =
       let a : (3 + (x * 3 + d) - 3) / 3 ≡ x = omega arith in
       let b : (3 + (x * 3 + d) - 3) % 3 ≡ d = omega arith in
       rw (lt-ltb k t.inputs h, le-ltb (3 + (x * 3 + d)) 3 (omega arith), a, b)
@@ -84,11 +84,11 @@ module _ (t : Table) where
   state_rows o l = rw (le-ltb t.inputs t.inputs (omega arith), lt-ltb o 3 l)
 
   -- the rows that match in every column but j
-  rest-is : (j k v : ℕ) → k ≤ t.inputs → k ≤ input_limit →
+  rest_is : (j k v : ℕ) → k ≤ t.inputs → k ≤ input_limit →
       rest_of (cells t) (all_rows t) j k v ≡ mask_of (length t.rows) (λ (i : ℕ). every k (λ (q : ℕ). cond (eqb q j) true (held i (get_or (vector_of k v) q V0) q)))
   unfolding rest_of all_rows every
-  rest-is j zero v a b = refl
-  rest-is j (suc k) v a b = go (rest-is j k (v / 3) (omega arith) (omega arith)) (eqb k j) refl
+  rest_is j zero v a b = refl
+  rest_is j (suc k) v a b = go (rest_is j k (v / 3) (omega arith) (omega arith)) (eqb k j) refl
     where
       before : ℕ → Bool
       before i = every k (λ (q : ℕ). cond (eqb q j) true (held i (get_or (vector_of k (v / 3)) q V0) q))
@@ -104,15 +104,15 @@ module _ (t : Table) where
           ≡ mask_of (length t.rows) (λ (i : ℕ). every k (λ (q : ℕ). cond (eqb q j) true (held i (get_or (vector_of (suc k) v) q V0) q)) && cond b true (held i (get_or (vector_of (suc k) v) k V0) k))
       go below true e = below ∙ mask_ext _ _ _ (λ i. sym (and-true _ ∙ sym (front i)))
       go below false e =
-          rw (below, cell-is k (v % 3) (omega arith) (omega arith), value-rows k (v % 3) (omega arith) (omega arith))
+          rw (below, cell_is k (v % 3) (omega arith) (omega arith), value_rows k (v % 3) (omega arith) (omega arith))
           (mask_and _ _ _ ∙ mask_ext _ _ _ (λ i. rw (front i, here i)))
 
   module _ (small : Small t) (j v x o d : ℕ) (lj : j < t.inputs) (lx : x < 3) (lo : o < 3) (ld : d ≡ digit_of v (t.inputs - suc j)) where
     abbrev w : List Ternary
     w = vector_of t.inputs v
 
-    d-low : d < 3
-    d-low = rw ld (digit_low v (t.inputs - suc j))
+    d_low : d < 3
+    d_low = rw ld (digit_low v (t.inputs - suc j))
 
     at_j : get_or w j V0 ≡ value_of d
     at_j = value_digit t.inputs (suc j) v (omega arith) lj ∙ ap value_of (sym ld)
@@ -121,11 +121,11 @@ module _ (t : Table) where
     rest = rest_of (cells t) (all_rows t) j t.inputs v
 
     -- the rows that match in the other columns, in column j as e says, and in the state
-    rows-by : (cell : ℕ) (e : ℕ → Bool) → cell ≡ mask_of (length t.rows) e →
+    rows_by_lem : (cell : ℕ) (e : ℕ → Bool) → cell ≡ mask_of (length t.rows) e →
         bit_and (bit_and rest (cell_at (cells t) t.inputs o)) cell
         ≡ mask_of (length t.rows) (λ (i : ℕ). every t.inputs (λ (q : ℕ). cond (eqb q j) (e i) (held i (get_or w q V0) q)) && match_level (row_at t i).state (value_of o))
-    rows-by cell e q =
-        rw (rest-is j t.inputs v (omega arith) small.inputs, cell-is t.inputs o small.inputs (omega arith), state_rows o lo, q)
+    rows_by_lem cell e q =
+        rw (rest_is j t.inputs v (omega arith) small.inputs, cell_is t.inputs o small.inputs (omega arith), state_rows o lo, q)
         (ap (λ (m : ℕ). bit_and m (mask_of (length t.rows) e)) (mask_and _ _ _) ∙ mask_and _ _ _
         ∙ mask_ext _ _ _ (λ i. and_swap (every t.inputs (λ (q : ℕ). cond (eqb q j) true (held i (get_or w q V0) q))) (match_level (row_at t i).state (value_of o)) (e i) ∙ ap (λ (b : Bool). b && match_level (row_at t i).state (value_of o)) (every_one t.inputs j (λ (q : ℕ). held i (get_or w q V0) q) (e i) lj)))
 
@@ -135,22 +135,22 @@ module _ (t : Table) where
     unfolding row_for row_matches columns_match
     lowest_by cell k e q fits =
         ap (lowest (length t.rows))
-        (rows-by cell e q ∙ mask_ext _ _ _ (λ i. ap (λ (b : Bool). b && match_level (row_at t i).state (value_of o)) (every_same _ _ t.inputs (λ q h. fits i q h))))
+        (rows_by_lem cell e q ∙ mask_ext _ _ _ (λ i. ap (λ (b : Bool). b && match_level (row_at t i).state (value_of o)) (every_same _ _ t.inputs (λ q h. fits i q h))))
         ∙ lowest_first _ (length t.rows) small.rows
 
-    level-fits : (i q : ℕ) → q < t.inputs →
+    level_fits : (i q : ℕ) → q < t.inputs →
         cond (eqb q j) (held i (value_of d) j) (held i (get_or w q V0) q) ≡ match_field (field_of (symbol_at (row_at t i) q) w t.inputs (value_of x) q)
     unfolding match_field field_of held
-    level-fits i q h = rw (ne_eqb q t.inputs (λ z. omega arith)) (go (eqb q j) refl)
+    level_fits i q h = rw (ne_eqb q t.inputs (λ z. omega arith)) (go (eqb q j) refl)
       where
         go : (b : Bool) → eqb q j ≡ b → cond b (held i (value_of d) j) (held i (get_or w q V0) q) ≡ match_held (symbol_at (row_at t i) q) (get_or w q V0)
         go true e = let p : q ≡ j = eqb-true q j e in rw (p, at_j)
         go false e = refl
 
-    edge-fits : (i q : ℕ) → q < t.inputs →
+    edge_fits : (i q : ℕ) → q < t.inputs →
         cond (eqb q j) (match_change (symbol_at (row_at t i) j) (value_of x) (value_of d)) (held i (get_or w q V0) q) ≡ match_field (field_of (symbol_at (row_at t i) q) w j (value_of x) q)
     unfolding match_field field_of held
-    edge-fits i q h = go (eqb q j) refl
+    edge_fits i q h = go (eqb q j) refl
       where
         go : (b : Bool) → eqb q j ≡ b →
             cond b (match_change (symbol_at (row_at t i) j) (value_of x) (value_of d)) (held i (get_or w q V0) q)
@@ -158,31 +158,31 @@ module _ (t : Table) where
         go true e = let p : q ≡ j = eqb-true q j e in rw (p, at_j)
         go false e = refl
 
-    level-row : lowest (length t.rows) (bit_and (bit_and rest (cell_at (cells t) t.inputs o)) (cell_at (cells t) j d)) ≡ row_for t w t.inputs (value_of x) (value_of o)
-    level-row =
+    level_row : lowest (length t.rows) (bit_and (bit_and rest (cell_at (cells t) t.inputs o)) (cell_at (cells t) j d)) ≡ row_for t w t.inputs (value_of x) (value_of o)
+    level_row =
         lowest_by (cell_at (cells t) j d) t.inputs (λ (i : ℕ). held i (value_of d) j)
-        (cell-is j d (omega (arith, small.inputs)) (omega (arith, d-low)) ∙ value-rows j d lj d-low) level-fits
+        (cell_is j d (omega (arith, small.inputs)) (omega (arith, d_low)) ∙ value_rows j d lj d_low) level_fits
 
     edge_row : lowest (length t.rows) (bit_and (bit_and rest (cell_at (cells t) t.inputs o)) (cell_at (cells t) j (3 + (x * 3 + d)))) ≡ row_for t w j (value_of x) (value_of o)
     edge_row =
         lowest_by (cell_at (cells t) j (3 + (x * 3 + d))) j (λ (i : ℕ). match_change (symbol_at (row_at t i) j) (value_of x) (value_of d))
-        (cell-is j (3 + (x * 3 + d)) (omega (arith, small.inputs)) (omega (arith, d-low)) ∙ change-rows j x d lj lx d-low) edge-fits
+        (cell_is j (3 + (x * 3 + d)) (omega (arith, small.inputs)) (omega (arith, d_low)) ∙ change_rows j x d lj lx d_low) edge_fits
 
-    out-is : out_by t
+    out_is : out_by t
         (bit_and (bit_and rest (cell_at (cells t) t.inputs o)) (cell_at (cells t) j d))
         (bit_and (bit_and rest (cell_at (cells t) t.inputs o)) (cell_at (cells t) j (3 + (x * 3 + d))))
         (value_of o) ≡ answer_of t w (suc j) (value_of x) (value_of o)
     unfolding out_by answer_of
-    out-is = let e : suc j - 1 ≡ j = omega arith in rw (level-row, edge_row, e)
+    out_is = let e : suc j - 1 ≡ j = omega arith in rw (level_row, edge_row, e)
 
     same_rank : same_value (value_of x) (at w (suc j)) ≡ eqb x d
     unfolding same_value
-    same_rank = rw (at_j, rank_value x lx, rank_value d d-low)
+    same_rank = rw (at_j, rank_value x lx, rank_value d d_low)
 
     -- what is worked out for one place is what is to stand there
-    pub entry-right : entry_of t (cells t) j rest d x o ≡ kept t.inputs (step_of t) j v x o
+    pub entry_right : entry_of t (cells t) j rest d x o ≡ kept t.inputs (step_of t) j v x o
     unfolding entry_of kept
-    entry-right = rw (step_arrives t w (suc j) (value_of x) (value_of o) (omega arith) (omega (arith, length_vector_of t.inputs v)), same_rank, out-is) (go (eqb x d))
+    entry_right = rw (step_arrives t w (suc j) (value_of x) (value_of o) (omega arith) (omega (arith, length_vector_of t.inputs v)), same_rank, out_is) (go (eqb x d))
       where
         go : (b : Bool) → cond b o (rank_of (answer_of t w (suc j) (value_of x) (value_of o))) ≡ rank_of (cond b (value_of o) (answer_of t w (suc j) (value_of x) (value_of o)))
         go true = sym (rank_value o lo)

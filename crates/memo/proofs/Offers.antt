@@ -10,8 +10,8 @@ use lib.ListN.{length, get_or, set, replicate, length-replicate, get_or-replicat
 use lib.Seq.{get_or-set_same, get_or-set_other}
 use borrow.Author.Tests.{lt-ltb, le-ltb}
 use Rattle.base.specs.Listed.{listed}
-use Rattle.base.proofs.Listed.{listed-is, listed-length, listed_at}
-use Rattle.base.proofs.Patched.{Patched, patched-more}
+use Rattle.base.proofs.Listed.{listed_is, listed_length, listed_at}
+use Rattle.base.proofs.Patched.{Patched, patched_more}
 use Rattle.symbol.specs.Match.{offered}
 use Rattle.table.specs.Table.{Table, row_at, symbol_at}
 use Rattle.symbol.specs.declared.Symbol.TheVariants.{Held}
@@ -53,7 +53,7 @@ pub set_more : (s u : List ℕ) (bits e c x : ℕ) → length s ≡ 12 → c < 1
     Patched (λ (q : ℕ). get_or s q 0 * 2 + bits / 2 ^ q % 2) 0 s u c → Patched (λ (q : ℕ). get_or s q 0 * 2 + bits / 2 ^ q % 2) 0 s (set u c x) (c + 1)
 set_more s u bits e c x l h p q w =
     let a : 0 + c ≡ c = omega arith in
-    rw a at (patched-more (λ (q : ℕ). get_or s q 0 * 2 + bits / 2 ^ q % 2) 0 s u c x (omega arith) (q ∙ rw (p, w.above c (omega arith))) w)
+    rw a at (patched_more (λ (q : ℕ). get_or s q 0 * 2 + bits / 2 ^ q % 2) 0 s u c x (omega arith) (q ∙ rw (p, w.above c (omega arith))) w)
 
 -- ---- a column, row by row from the last
 
@@ -70,15 +70,15 @@ module _ (t : Table) (k : ℕ) where
     pub long : length s ≡ 12
     pub sets : (c : ℕ) → c < 12 → get_or s c 0 ≡ mask_from (taken c) i (rows - i)
 
-  pub from-none : (i : ℕ) → i ≡ rows → From i (replicate {A = ℕ} 12 0)
-  from-none i h = record {
+  pub from_none : (i : ℕ) → i ≡ rows → From i (replicate {A = ℕ} 12 0)
+  from_none i h = record {
     within = omega arith;
     long = length-replicate {A = ℕ} 12 0;
     sets = λ c b. get_or-replicate {A = ℕ} 12 c 0 0 b ∙ mask_top (taken c) rows i h;
   }
 
-  pub from-room : (i : ℕ) (s : List ℕ) → From i s → 0 < i → rows ≤ 64 → (c : ℕ) → c < 12 → get_or s c 0 < 2 ^ 63
-  from-room i s w h l c b = mask_room (taken c) i (rows - i) (get_or s c 0) (w.sets c b) (omega (arith, w.within))
+  pub from_room : (i : ℕ) (s : List ℕ) → From i s → 0 < i → rows ≤ 64 → (c : ℕ) → c < 12 → get_or s c 0 < 2 ^ 63
+  from_room i s w h l c b = mask_room (taken c) i (rows - i) (get_or s c 0) (w.sets c b) (omega (arith, w.within))
 
   pub from_more : (i bits : ℕ) (s u : List ℕ) → 0 < i → From i s → bits ≡ offers (column_of t (i - 1) k) →
       Patched (λ (c : ℕ). get_or s c 0 * 2 + bits / 2 ^ c % 2) 0 s u 12 → From (i - 1) u
@@ -91,7 +91,7 @@ module _ (t : Table) (k : ℕ) where
 
   pub from_all : (i : ℕ) (s : List ℕ) → i ≤ 0 → From i s → s ≡ cell_row t k
   unfolding cell_row offered_rows
-  from_all i s h w = sym (listed-is (offered_rows t k) 12 s 0 w.long (λ c b. sym (mask_bottom (taken c) rows i (get_or s c 0) h (w.sets c b))))
+  from_all i s h w = sym (listed_is (offered_rows t k) 12 s 0 w.long (λ c b. sym (mask_bottom (taken c) rows i (get_or s c 0) h (w.sets c b))))
 
 -- a column behind the last is the state's
 behind_at : (t : Table) (k c : ℕ) → t.inputs ≤ k → offered_rows t k c ≡ offered_rows t t.inputs c
@@ -101,5 +101,5 @@ behind_at t k c h = rw (le-ltb k t.inputs h, le-ltb t.inputs t.inputs (omega ari
 pub behind : (t : Table) (k : ℕ) → t.inputs ≤ k → cell_row t k ≡ cell_row t t.inputs
 unfolding cell_row
 behind t k h =
-    listed-is (offered_rows t k) 12 (listed (offered_rows t t.inputs) 12) 0 (listed-length (offered_rows t t.inputs) 12)
+    listed_is (offered_rows t k) 12 (listed (offered_rows t t.inputs) 12) 0 (listed_length (offered_rows t t.inputs) 12)
     (λ c b. behind_at t k c h ∙ sym (listed_at (offered_rows t t.inputs) 12 c 0 b))

@@ -71,10 +71,10 @@ or_comm false true = refl
 or_comm false false = refl
 
 module _ (s : List (List ℕ)) (all : ℕ) where
-  pub others-comm : (i j k v : ℕ) → others_of s all i j k v ≡ others_of s all j i k v
+  pub others_comm : (i j k v : ℕ) → others_of s all i j k v ≡ others_of s all j i k v
   unfolding others_of
-  others-comm i j zero v = refl
-  others-comm i j (suc k) v = rw (or_comm (eqb k i) (eqb k j), others-comm i j k (v / 3))
+  others_comm i j zero v = refl
+  others_comm i j (suc k) v = rw (or_comm (eqb k i) (eqb k j), others_comm i j k (v / 3))
 
   -- what stands in a column that is left out does not count
   pub others_put : (i j p k v x : ℕ) → (eqb p i || eqb p j) ≡ true → x < 3 → p < k → others_of s all i j k (put_digit x (k - suc p) v) ≡ others_of s all i j k v
@@ -108,10 +108,10 @@ module _ (s : List (List ℕ)) (all : ℕ) where
       go false = refl
 
   -- all columns but i are all but i and j, and j
-  pub rest-others : (i j k v : ℕ) → i ≢ j → j < k → rest_of s all i k v ≡ bit_and (others_of s all i j k v) (cell_at s j (digit_of v (k - suc j)))
+  pub rest_others : (i j k v : ℕ) → i ≢ j → j < k → rest_of s all i k v ≡ bit_and (others_of s all i j k v) (cell_at s j (digit_of v (k - suc j)))
   unfolding rest_of others_of digit_of
-  rest-others i j zero v ne h = absurd (omega arith)
-  rest-others i j (suc k) v ne h = ⊎_elim last (λ g. earlier g (rest-others i j k (v / 3) ne (omega arith))) (eq-or-lt_of_le h)
+  rest_others i j zero v ne h = absurd (omega arith)
+  rest_others i j (suc k) v ne h = ⊎_elim last (λ g. earlier g (rest_others i j k (v / 3) ne (omega arith))) (eq-or-lt_of_le h)
     where
       last : suc j ≡ suc k → rest_of s all i (suc k) v ≡ bit_and (others_of s all i j (suc k) v) (cell_at s j (digit_of v (suc k - suc j)))
       last q =

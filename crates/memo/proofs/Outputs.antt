@@ -14,7 +14,7 @@ use Rattle.orders.specs.Order.{Step, Laws, eval_order}
 use Rattle.orders.specs.Pairs.{pair_order}
 use Rattle.orders.specs.Verdict.{current_at, first_output, second_output}
 use Rattle.orders.proofs.Places.{at_other, at_same, put_back, put_comm, vector_put, only_two}
-use Rattle.orders.proofs.Pairs.{tail-idle}
+use Rattle.orders.proofs.Pairs.{tail_idle}
 use Rattle.orders.proofs.Candidates.{value_rank, rank_value, rank_low, vector_number}
 use Rattle.orders.specs.Digits.{digit_of, put_digit}
 use Rattle.orders.proofs.Digits as digits
@@ -22,17 +22,17 @@ use Rattle.step.specs.Step.{step_of}
 use Rattle.step.proofs.Laws.{laws}
 use Rattle.memo.specs.Rows.{cells, all_rows, cell_at, rest_of, entry_of, Small}
 use Rattle.memo.specs.Pair.{others_of, first_then, second_then}
-use Rattle.memo.proofs.Entries.{kept, entry-right}
-use Rattle.memo.proofs.Others.{others-comm, others_put, rest-others, digit_same, digit_other}
+use Rattle.memo.proofs.Entries.{kept, entry_right}
+use Rattle.memo.proofs.Others.{others_comm, others_put, rest_others, digit_same, digit_other}
 
 -- ---- an order of two inputs is two steps, whatever the step
 
 module _ {n : ℕ} {phi : Step} (L : Laws n phi) where
   -- the input of column k goes from q, where it had value number x, to vector number p
-  one-step : (k p x : ℕ) (q d : List Ternary) (o : Ternary) → Vector n d →
+  one_step : (k p x : ℕ) (q d : List Ternary) (o : Ternary) → Vector n d →
       put (vector_of n p) (suc k) (value_of x) ≡ q → at d (suc k) ≡ at (vector_of n p) (suc k) → rank_of (phi q d (suc k) o) ≡ kept n phi k p x (rank_of o)
   unfolding kept
-  one-step k p x q d o g e h =
+  one_step k p x q d o g e h =
       let w : Vector n (put (vector_of n p) (suc k) (value_of x)) = vector_put (suc k) (value_of x) (vector_number n p) in
       rw (e, value_rank o) (ap rank_of (L.own (suc k) (rw e at w) g (vector_number n p) h))
 
@@ -56,14 +56,14 @@ module _ {n : ℕ} {phi : Step} (L : Laws n phi) where
     at_i : at c (suc i) ≡ x
     at_i = rw only (at_other (put p (suc i) x) (suc j) (suc i) y apart ∙ at_same p (suc i) x (omega arith) (omega (arith, g.size)))
 
-    back-i : put (vector_of n u) (suc i) (value_of a) ≡ p
-    back-i = rw (eu, ← ea) (put_back p (suc i) x)
+    back_i : put (vector_of n u) (suc i) (value_of a) ≡ p
+    back_i = rw (eu, ← ea) (put_back p (suc i) x)
 
-    here-i : at c (suc i) ≡ at (vector_of n u) (suc i)
-    here-i = at_i ∙ sym (rw eu (at_same p (suc i) x (omega arith) (omega (arith, g.size))))
+    here_i : at c (suc i) ≡ at (vector_of n u) (suc i)
+    here_i = at_i ∙ sym (rw eu (at_same p (suc i) x (omega arith) (omega (arith, g.size))))
 
     first_step : rank_of (phi p c (suc i) (value_of q)) ≡ kept n phi i u a q
-    first_step = one-step i u a p c (value_of q) h back-i here-i ∙ rw (rank_value q lq)
+    first_step = one_step i u a p c (value_of q) h back_i here_i ∙ rw (rank_value q lq)
 
     next : put p (suc i) (at c (suc i)) ≡ vector_of n u
     next = rw at_i (sym eu)
@@ -74,13 +74,13 @@ module _ {n : ℕ} {phi : Step} (L : Laws n phi) where
     both : c ≡ put (vector_of n u) (suc j) y
     both = rw eu only
 
-    back-j : put (vector_of n w) (suc j) (value_of b) ≡ vector_of n u
-    back-j = rw (ew, both, ← at_j) (put_back (vector_of n u) (suc j) y)
+    back_j : put (vector_of n w) (suc j) (value_of b) ≡ vector_of n u
+    back_j = rw (ew, both, ← at_j) (put_back (vector_of n u) (suc j) y)
 
     two_steps : rank_of (eval_order phi p c (value_of q) (pair_order n (suc i) (suc j))) ≡ kept n phi j w b (kept n phi i u a q)
     two_steps =
-        ap rank_of (tail-idle L (value_of q) g h (suc i) (suc j) apart (rw only (only_two p (suc i) (suc j) x y)))
-        ∙ rw next (one-step j w b (vector_of n u) c (phi p c (suc i) (value_of q)) h back-j (ap (λ (v : List Ternary). at v (suc j)) (sym ew)))
+        ap rank_of (tail_idle L (value_of q) g h (suc i) (suc j) apart (rw only (only_two p (suc i) (suc j) x y)))
+        ∙ rw next (one_step j w b (vector_of n u) c (phi p c (suc i) (value_of q)) h back_j (ap (λ (v : List Ternary). at v (suc j)) (sym ew)))
         ∙ ap (kept n phi j w b) first_step
 
 -- ---- the two steps from the masks
@@ -103,9 +103,9 @@ module _ (t : Table) (small : Small t) where
       entry_of t (cells t) i (bit_and (others i j v) (cell_at (cells t) j b)) x a o ≡ kept n (step_of t) i (moved i x v) a o
   one_entry i j v a b x o li lj ne la lx lo eb =
       let e : rest_of (cells t) (all_rows t) i n (moved i x v) ≡ bit_and (others i j v) (cell_at (cells t) j b) =
-      rest-others (cells t) (all_rows t) i j n (moved i x v) ne lj
+      rest_others (cells t) (all_rows t) i j n (moved i x v) ne lj
       ∙ rw (others_put (cells t) (all_rows t) i j i n v x (rw (eq-eqb i i refl)) lx li, digit_other x (n - suc i) (n - suc j) v lx (λ z. ne (omega arith)), eb) in
-      rw (← e) (entry-right t small i (moved i x v) a o x li la lo (sym (digit_same x (n - suc i) v lx)))
+      rw (← e) (entry_right t small i (moved i x v) a o x li la lo (sym (digit_same x (n - suc i) v lx)))
 
   kept_low : (k v x o : ℕ) → kept n (step_of t) k v x o < 3
   unfolding kept
@@ -113,8 +113,8 @@ module _ (t : Table) (small : Small t) where
 
   -- the order i, j from vector v, where the two have the values a and b
   module _ (i j v a b x y o : ℕ) (li : i < n) (lj : j < n) (ne : i ≢ j) (lx : x < 3) (ly : y < 3) (lo : o < 3) (ea : a ≡ digit i v) (eb : b ≡ digit j v) where
-    apart-back : j ≢ i
-    apart-back e = ne (sym e)
+    apart_back : j ≢ i
+    apart_back e = ne (sym e)
 
     abbrev u : ℕ
     u = moved i x v
@@ -122,28 +122,28 @@ module _ (t : Table) (small : Small t) where
     b_there : b ≡ digit j u
     b_there = eb ∙ sym (digit_other x (n - suc i) (n - suc j) v lx (λ z. ne (omega arith)))
 
-    same-others : others j i u ≡ others i j v
-    same-others = others-comm (cells t) (all_rows t) j i n u ∙ others_put (cells t) (all_rows t) i j i n v x (rw (eq-eqb i i refl)) lx li
+    same_others : others j i u ≡ others i j v
+    same_others = others_comm (cells t) (all_rows t) j i n u ∙ others_put (cells t) (all_rows t) i j i n v x (rw (eq-eqb i i refl)) lx li
 
     then_is : first_then t (cells t) i j (others i j v) a b x y o ≡ kept n (step_of t) j (moved j y u) b (kept n (step_of t) i u a o)
     unfolding first_then
     then_is =
-        rw (one_entry i j v a b x o li lj ne (rw ea (digits.digit_low v (n - suc i))) lx lo eb, ← same-others)
-        (one_entry j i u b x y (kept n (step_of t) i u a o) lj li apart-back (rw eb (digits.digit_low v (n - suc j))) ly (kept_low i u a o) (sym (digit_same x (n - suc i) v lx)))
+        rw (one_entry i j v a b x o li lj ne (rw ea (digits.digit_low v (n - suc i))) lx lo eb, ← same_others)
+        (one_entry j i u b x y (kept n (step_of t) i u a o) lj li apart_back (rw eb (digits.digit_low v (n - suc j))) ly (kept_low i u a o) (sym (digit_same x (n - suc i) v lx)))
 
-    value-at : (k d : ℕ) → k < n → d ≡ digit k v → at (vector_of n v) (suc k) ≡ value_of d
-    value-at k d h e = digits.value_digit n (suc k) v (omega arith) h ∙ ap value_of (sym e)
+    value_at_lem : (k d : ℕ) → k < n → d ≡ digit k v → at (vector_of n v) (suc k) ≡ value_of d
+    value_at_lem k d h e = digits.value_digit n (suc k) v (omega arith) h ∙ ap value_of (sym e)
 
-    u-vector : vector_of n u ≡ put (vector_of n v) (suc i) (value_of x)
-    u-vector = digits.vector_put n (suc i) x v lx (omega arith) li
+    u_vector : vector_of n u ≡ put (vector_of n v) (suc i) (value_of x)
+    u_vector = digits.vector_put n (suc i) x v lx (omega arith) li
 
-    w-vector : vector_of n (moved j y u) ≡ put (put (vector_of n v) (suc i) (value_of x)) (suc j) (value_of y)
-    w-vector = digits.vector_put n (suc j) y u ly (omega arith) lj ∙ ap (λ (c : List Ternary). put c (suc j) (value_of y)) u-vector
+    w_vector : vector_of n (moved j y u) ≡ put (put (vector_of n v) (suc i) (value_of x)) (suc j) (value_of y)
+    w_vector = digits.vector_put n (suc j) y u ly (omega arith) lj ∙ ap (λ (c : List Ternary). put c (suc j) (value_of y)) u_vector
 
     order_is : (c : List Ternary) → c ≡ put (put (vector_of n v) (suc i) (value_of x)) (suc j) (value_of y) →
         rank_of (eval_order (step_of t) (vector_of n v) c (value_of o) (pair_order n (suc i) (suc j))) ≡ first_then t (cells t) i j (others i j v) a b x y o
     order_is c e =
-        two_steps (laws t n) i j v u (moved j y u) a b o (value_of x) (value_of y) li ne lo c e u-vector (w-vector ∙ sym e) (value-at i a li ea) (value-at j b lj eb) ∙ sym then_is
+        two_steps (laws t n) i j v u (moved j y u) a b o (value_of x) (value_of y) li ne lo c e u_vector (w_vector ∙ sym e) (value_at_lem i a li ea) (value_at_lem j b lj eb) ∙ sym then_is
 
   -- candidate r of the columns i and j
   module _ (i j r : ℕ) (li : i < n) (lj : j < n) (ne : i ≢ j) where
@@ -156,12 +156,12 @@ module _ (t : Table) (small : Small t) where
     here : (k : ℕ) → r / 27 / 3 ^ (n - suc k) % 3 ≡ digit k (r / 27)
     here k = sym (digits.digit_is (r / 27) (n - suc k))
 
-    pub first-is : rank_of (first_output n (step_of t) (suc i) (suc j) r) ≡ first_then t (cells t) i j (others i j (r / 27)) a b (r / 9 % 3) (r / 3 % 3) (r % 3)
-    first-is = order_is i j (r / 27) a b (r / 9 % 3) (r / 3 % 3) (r % 3) li lj ne (omega arith) (omega arith) (omega arith) (here i) (here j) (current_at n (suc i) (suc j) r) refl
+    pub first_is : rank_of (first_output n (step_of t) (suc i) (suc j) r) ≡ first_then t (cells t) i j (others i j (r / 27)) a b (r / 9 % 3) (r / 3 % 3) (r % 3)
+    first_is = order_is i j (r / 27) a b (r / 9 % 3) (r / 3 % 3) (r % 3) li lj ne (omega arith) (omega arith) (omega arith) (here i) (here j) (current_at n (suc i) (suc j) r) refl
 
     pub second_is : rank_of (second_output n (step_of t) (suc i) (suc j) r) ≡ second_then t (cells t) i j (others i j (r / 27)) a b (r / 9 % 3) (r / 3 % 3) (r % 3)
     unfolding second_then first_then
     second_is =
-        rw (others-comm (cells t) (all_rows t) i j n (r / 27))
+        rw (others_comm (cells t) (all_rows t) i j n (r / 27))
         (order_is j i (r / 27) b a (r / 3 % 3) (r / 9 % 3) (r % 3) lj li (λ e. ne (sym e)) (omega arith) (omega arith) (omega arith) (here j) (here i)
         (current_at n (suc i) (suc j) r) (put_comm (vector_of n (r / 27)) (suc i) (suc j) (value_of (r / 9 % 3)) (value_of (r / 3 % 3)) (λ e. ne (omega arith))))

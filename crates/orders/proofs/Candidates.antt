@@ -7,7 +7,6 @@ use native.Mathlib.Nat.{pow-suc, zero-add, add-zero}
 use native.Mathlib.Decide.{ℕ_discrete}
 use native.Mathlib.Omega.{arith}
 use lib.ListN.{length, length-append}
-use lib.Dec.{eqb}
 use borrow.Author.Tests.{eq-eqb, eqb-true}
 use mathlib.Core.Bool.{true}
 use Rattle.value.specs.Value.{rank_of, value_of, same_value}
@@ -18,7 +17,7 @@ use Rattle.orders.specs.Order.{Step, Laws, eval_order, Family}
 use Rattle.orders.specs.Pairs.{pair_order, PairAgrees}
 use Rattle.orders.specs.Verdict.{candidates, previous_at, first_now, second_now, old_at, current_at, first_output, second_output, Disagrees}
 use Rattle.orders.proofs.Places.{at_other, at_same, vector_put, two_puts, only_two}
-use Rattle.orders.proofs.Pairs.{still-agrees}
+use Rattle.orders.proofs.Pairs.{still_agrees}
 
 pub value_rank : (x : Ternary) → value_of (rank_of x) ≡ x
 unfolding value_of rank_of
@@ -96,8 +95,8 @@ numbered {n} {v} g = (number_from 0 v, small, rw (← g.size) whole)
 
 module _ (n : ℕ) (phi : Step) (Ok : List Ternary → List Ternary → Type 0) (i j : ℕ) where
   -- a pair agrees exactly where none of its candidates is a disagreement
-  pub pair-iff : Family n Ok → PairAgrees n Ok phi i j ↔ ((r : ℕ) → r < candidates n → Disagrees n Ok phi i j r → ⊥)
-  pair-iff F = (λ a r h d. d.differ (a (previous_at n r) (current_at n i j r) (old_at r) d.admitted (only_two (previous_at n r) i j (first_now r) (second_now r))), search)
+  pub pair_iff : Family n Ok → PairAgrees n Ok phi i j ↔ ((r : ℕ) → r < candidates n → Disagrees n Ok phi i j r → ⊥)
+  pair_iff F = (λ a r h d. d.differ (a (previous_at n r) (current_at n i j r) (old_at r) d.admitted (only_two (previous_at n r) i j (first_now r) (second_now r))), search)
     where
       Agree : List Ternary → Ternary → Ternary → Ternary → Type 0
       Agree prev x y old = eval_order phi prev (put (put prev i x) j y) old (pair_order n i j) ≡ eval_order phi prev (put (put prev i x) j y) old (pair_order n j i)
@@ -129,9 +128,9 @@ module _ (n : ℕ) (phi : Step) (Ok : List Ternary → List Ternary → Type 0) 
           (all r (omega (arith, v.1))) (rw e ok))
 
   -- a disagreement changes both inputs
-  pub both-change : Laws n phi → i ≢ j → (r : ℕ) → 1 ≤ i → i ≤ n → 1 ≤ j → j ≤ n → Disagrees n Ok phi i j r →
+  pub both_change : Laws n phi → i ≢ j → (r : ℕ) → 1 ≤ i → i ≤ n → 1 ≤ j → j ≤ n → Disagrees n Ok phi i j r →
       (at (previous_at n r) i ≢ first_now r) × (at (previous_at n r) j ≢ second_now r)
-  both-change L ne r a b c d q = (
+  both_change L ne r a b c d q = (
     λ e. q.differ (agree (inl (e ∙ sym ei))),
     λ e. q.differ (agree (inr (e ∙ sym ej))),
   )
@@ -152,4 +151,4 @@ module _ (n : ℕ) (phi : Step) (Ok : List Ternary → List Ternary → Type 0) 
       ej = at_same (put p i (first_now r)) j (second_now r) c (omega (arith, (vector_put i (first_now r) g).size))
 
       agree : (at p i ≡ at (current_at n i j r) i) ⊎ (at p j ≡ at (current_at n i j r) j) → first_output n phi i j r ≡ second_output n phi i j r
-      agree s = still-agrees L (old_at r) g h i j ne (only_two p i j (first_now r) (second_now r)) s
+      agree s = still_agrees L (old_at r) g h i j ne (only_two p i j (first_now r) (second_now r)) s

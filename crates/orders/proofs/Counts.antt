@@ -30,11 +30,11 @@ remove x [] = []
 remove x (y ∷ m) = ite (ℕ_discrete x y) m (y ∷ remove x m)
 
 module _ {P : ℕ → ℕ → Type 0} where
-  pub count-joined : {l m : List ℕ} (k : ℕ) → Joined P l m → count k l ≡ count k m
-  count-joined k same = refl
-  count-joined k (swap p) = omega arith
-  count-joined k (skip {k = x} d) = ap (λ (c : ℕ). hit k x + c) (count-joined k d)
-  count-joined k (then d e) = count-joined k d ∙ count-joined k e
+  pub count_joined : {l m : List ℕ} (k : ℕ) → Joined P l m → count k l ≡ count k m
+  count_joined k same = refl
+  count_joined k (swap p) = omega arith
+  count_joined k (skip {k = x} d) = ap (λ (c : ℕ). hit k x + c) (count_joined k d)
+  count_joined k (then d e) = count_joined k d ∙ count_joined k e
 
   module _ (all : (i j : ℕ) → P i j) where
     pub front : (x : ℕ) (m : List ℕ) → 1 ≤ count x m → Joined P (x ∷ remove x m) m
@@ -46,12 +46,12 @@ module _ {P : ℕ → ℕ → Type 0} where
         go (yes e) below t = subst (λ (z : ℕ). Joined P (x ∷ m) (z ∷ m)) e same
         go (no ne) below t = then (swap (all x y)) (skip (below (omega arith)))
 
-    pub joined-of-count : (l m : List ℕ) → ((k : ℕ) → count k l ≡ count k m) → Joined P l m
-    joined-of-count [] [] q = same
-    joined-of-count [] (y ∷ m) q = absurd (omega (arith, q y, hit_self y))
-    joined-of-count (x ∷ l) m q =
+    pub joined_of_count : (l m : List ℕ) → ((k : ℕ) → count k l ≡ count k m) → Joined P l m
+    joined_of_count [] [] q = same
+    joined_of_count [] (y ∷ m) q = absurd (omega (arith, q y, hit_self y))
+    joined_of_count (x ∷ l) m q =
         let f : Joined P (x ∷ remove x m) m = front x m (omega (arith, q x, hit_self x)) in
-        then (skip (joined-of-count l (remove x m) (λ k. omega (arith, q k, count-joined k f)))) f
+        then (skip (joined_of_count l (remove x m) (λ k. omega (arith, q k, count_joined k f)))) f
 
 -- ---- the rising order, and the two orders that the check of a pair compares
 
@@ -89,17 +89,17 @@ count_gone i (x ∷ l) = go (ℕ_discrete i x) (count_gone i l)
 
 -- the list behind a pair, in the check of that pair, has neither of the two
 module _ (n i j : ℕ) (ne : i ≢ j) where
-  gone-i : (k : ℕ) → k ≡ i → count k (others n i j) ≡ 0
-  gone-i k e = rw e (count_gone i (without j (rise 1 n)))
+  gone_i : (k : ℕ) → k ≡ i → count k (others n i j) ≡ 0
+  gone_i k e = rw e (count_gone i (without j (rise 1 n)))
 
-  gone-j : (k : ℕ) → k ≡ j → count k (others n i j) ≡ 0
-  gone-j k e = count_without i k (without j (rise 1 n)) (λ f. ne (sym f ∙ e)) ∙ rw e (count_gone j (rise 1 n))
+  gone_j : (k : ℕ) → k ≡ j → count k (others n i j) ≡ 0
+  gone_j k e = count_without i k (without j (rise 1 n)) (λ f. ne (sym f ∙ e)) ∙ rw e (count_gone j (rise 1 n))
 
-  pub out-others : (k : ℕ) → 1 ≤ count k (others n i j) → (k ≢ i) × (k ≢ j)
-  out-others k c = (λ e. omega (arith, gone-i k e), λ e. omega (arith, gone-j k e))
+  pub out_others : (k : ℕ) → 1 ≤ count k (others n i j) → (k ≢ i) × (k ≢ j)
+  out_others k c = (λ e. omega (arith, gone_i k e), λ e. omega (arith, gone_j k e))
 
-  pub full-pair : 1 ≤ i → i ≤ n → 1 ≤ j → j ≤ n → Full n (pair_order n i j)
-  full-pair a b c d = record { each = λ k p q. once k p q (ℕ_discrete k i) (ℕ_discrete k j); zero_out = out 0 (omega arith) (omega arith) (count_below 1 n 0 (omega arith)); above_out = λ k h. out k (omega arith) (omega arith) (count_above 1 n k (omega arith)) }
+  pub full_pair : 1 ≤ i → i ≤ n → 1 ≤ j → j ≤ n → Full n (pair_order n i j)
+  full_pair a b c d = record { each = λ k p q. once k p q (ℕ_discrete k i) (ℕ_discrete k j); zero_out = out 0 (omega arith) (omega arith) (count_below 1 n 0 (omega arith)); above_out = λ k h. out k (omega arith) (omega arith) (count_above 1 n k (omega arith)) }
     where
       rest : (k : ℕ) → k ≢ i → k ≢ j → count k (others n i j) ≡ count k (rise 1 n)
       rest k a b = count_without i k (without j (rise 1 n)) a ∙ count_without j k (rise 1 n) b
@@ -110,8 +110,8 @@ module _ (n i j : ℕ) (ne : i ≢ j) where
       once : (k : ℕ) → 1 ≤ k → k ≤ n → Dec (k ≡ i) → Dec (k ≡ j) → count k (pair_order n i j) ≡ 1
       once k p q (no x) (no y) = omega (arith, hit_other k i x, hit_other k j y, rest k x y, count_rise 1 n k p (omega arith))
       once k p q (yes x) (yes y) = absurd (ne (sym x ∙ y))
-      once k p q (yes x) (no y) = omega (arith, hit_same k i x, hit_other k j y, gone-i k x)
-      once k p q (no x) (yes y) = omega (arith, hit_other k i x, hit_same k j y, gone-j k y)
+      once k p q (yes x) (no y) = omega (arith, hit_same k i x, hit_other k j y, gone_i k x)
+      once k p q (no x) (yes y) = omega (arith, hit_other k i x, hit_same k j y, gone_j k y)
 
 pub full_rise : (n : ℕ) → Full n (rise 1 n)
 full_rise n = record { each = λ k a b. count_rise 1 n k a (omega arith); zero_out = count_below 1 n 0 (omega arith); above_out = λ k h. count_above 1 n k (omega arith) }

@@ -1,15 +1,14 @@
 -- A vector's number: one value read off it, and one value put into it. Assumes nothing.
 use Prim.Native.Nat.{ℕ, zero, suc, ◌+◌, ◌-◌, ◌*◌, ◌/◌, ◌%◌, ◌^◌, ◌<◌, ◌≤◌}
-use mathlib.Core.Path.{◌≡◌, refl, sym, ap, ◌∙◌}
+use mathlib.Core.Path.{◌≡◌, sym, ◌∙◌}
 use mathlib.Core.Logic.{⊎_elim}
-use mathlib.Core.List.{List, [], ◌∷◌, ◌++◌}
+use mathlib.Core.List.{[], ◌∷◌}
 use native.Mathlib.Nat.{pow-suc, mul_comm, mul_assoc, div-div-eq-div-mul, div-one, eq-or-lt_of_le, pow-le-pow_right}
 use native.Mathlib.Omega.{arith}
 use lib.Dec.{lit<}
-use lib.ListN.{length, get_or, set, get_or-append}
+use lib.ListN.{get_or, set, get_or-append}
 use lib.Seq.{get_or_at, set_at, set-append_left}
 use Rattle.value.specs.Value.{value_of}
-use Rattle.value.specs.declared.Ternary.{Ternary}
 use Rattle.value.specs.declared.Ternary.TheVariants.{V0}
 use Rattle.orders.specs.Digits.{digit_of, put_digit}
 use Rattle.orders.specs.Vectors.{at, put, vector_of}

@@ -1,5 +1,5 @@
 -- An order of n different numbers of 1..n is a full order. Assumes nothing.
-use mathlib.Core.Path.{◌≡◌, refl, sym, ap, ◌∙◌, subst}
+use mathlib.Core.Path.{◌≡◌, refl, sym, ap, ◌∙◌}
 use mathlib.Core.Logic.{◌≢◌, ite}
 use mathlib.Core.List.{List, [], ◌∷◌}
 use Prim.Native.Nat.{ℕ, zero, suc, ◌+◌, ◌≤◌, ◌<◌}
@@ -8,7 +8,7 @@ use native.Mathlib.Omega.{arith}
 use lib.ListN.{length, get_or}
 use Rattle.orders.specs.Order.{hit, count, Full, Order}
 use Rattle.orders.specs.Pairs.{rise, Joined, same, swap, skip, then}
-use Rattle.orders.proofs.Counts.{hit_same, hit_self, hit_other, remove, front, count-joined, full_rise, full_of_counts, count_rise}
+use Rattle.orders.proofs.Counts.{hit_same, hit_self, hit_other, remove, front, count_joined, full_rise, full_of_counts, count_rise}
 
 -- a number that is counted has a place
 pub place : (k : ℕ) (l : List ℕ) → 1 ≤ count k l → (a : ℕ) × (a < length l) × (get_or l a 0 ≡ k)
@@ -40,7 +40,7 @@ filled [] [] q h k = refl
 filled [] (y ∷ m) q h k = omega arith
 filled (x ∷ l) m q h k =
     let f : Joined (λ _ _. Unit {0}) (x ∷ remove x m) m = front (λ _ _. tt) x m (omega (arith, q x, hit_self x)) in
-    omega (arith, count-joined k f, filled l (remove x m) (λ i. omega (arith, q i, count-joined i f)) (omega (arith, length_joined f)) k)
+    omega (arith, count_joined k f, filled l (remove x m) (λ i. omega (arith, q i, count_joined i f)) (omega (arith, length_joined f)) k)
 
 length_rise : (a n : ℕ) → length (rise a n) ≡ n
 length_rise a zero = refl

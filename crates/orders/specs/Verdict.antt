@@ -51,9 +51,9 @@ module _ (n : ℕ) (Ok : List Ternary → List Ternary → Type 0) (phi : Step) 
     pub last : j ≤ n
     pub counted : r < candidates n
     pub here : Disagrees i j r
-    pub before-i : (a b s : ℕ) → 1 ≤ a → a < i → a < b → b ≤ n → s < candidates n → Disagrees a b s → ⊥
-    pub before-j : (b s : ℕ) → i < b → b < j → s < candidates n → Disagrees i b s → ⊥
-    pub before-r : (s : ℕ) → s < r → Disagrees i j s → ⊥
+    pub before_i : (a b s : ℕ) → 1 ≤ a → a < i → a < b → b ≤ n → s < candidates n → Disagrees a b s → ⊥
+    pub before_j : (b s : ℕ) → i < b → b < j → s < candidates n → Disagrees i b s → ⊥
+    pub before_r : (s : ℕ) → s < r → Disagrees i j s → ⊥
 
   -- the verdict that is right: independent where all full orders agree, else the first disagreement
   abbrev pub Judged : Verdict → Type 0

@@ -10,7 +10,7 @@ use lib.Dec.{eqb}
 use borrow.Author.Tests.{eq-eqb, eqb-true}
 use Rattle.base.specs.Search.{first}
 use Rattle.base.proofs.Bools.{both}
-use Rattle.base.proofs.Search.{first-none}
+use Rattle.base.proofs.Search.{first_none}
 use Rattle.table.specs.Table.{Table}
 use Rattle.memo.specs.Rows.{entry_of}
 use Rattle.memo.specs.Pair.{first_then, second_then}
@@ -49,24 +49,24 @@ module _ (t : Table) (s : List (List ℕ)) (i j rest a b : ℕ) where
   Agree x y o = first_then t s i j rest a b x y o ≡ second_then t s i j rest a b x y o
 
   -- an input that stays leaves the output
-  still-i : (y o : ℕ) → Agree a y o
+  still_i : (y o : ℕ) → Agree a y o
   unfolding first_then second_then entry_of
-  still-i y o = rw (eq-eqb a a refl)
+  still_i y o = rw (eq-eqb a a refl)
 
-  still-j : (x o : ℕ) → Agree x b o
+  still_j : (x o : ℕ) → Agree x b o
   unfolding first_then second_then entry_of
-  still-j x o = rw (eq-eqb b b refl)
+  still_j x o = rw (eq-eqb b b refl)
 
-  every-case : a < 3 → b < 3 → ((x y o : ℕ) → x < 3 → y < 3 → o < 3 → x ≢ a → y ≢ b → Agree x y o) → (x y o : ℕ) → x < 3 → y < 3 → o < 3 → Agree x y o
-  every-case la lb f x y o lx ly lo = go (ℕ_discrete x a) (ℕ_discrete y b)
+  every_case : a < 3 → b < 3 → ((x y o : ℕ) → x < 3 → y < 3 → o < 3 → x ≢ a → y ≢ b → Agree x y o) → (x y o : ℕ) → x < 3 → y < 3 → o < 3 → Agree x y o
+  every_case la lb f x y o lx ly lo = go (ℕ_discrete x a) (ℕ_discrete y b)
     where
       go : Dec (x ≡ a) → Dec (y ≡ b) → Agree x y o
-      go (yes e) d = rw e (still-i y o)
-      go (no p) (yes e) = rw e (still-j x o)
+      go (yes e) d = rw e (still_i y o)
+      go (no p) (yes e) = rw e (still_j x o)
       go (no p) (no q) = f x y o lx ly lo p q
 
-  pub no-case : a < 3 → b < 3 → ((x y o : ℕ) → x < 3 → y < 3 → o < 3 → x ≢ a → y ≢ b → Agree x y o) → 27 ≡ first 27 (differs_by t s i j rest a b)
+  pub no_case : a < 3 → b < 3 → ((x y o : ℕ) → x < 3 → y < 3 → o < 3 → x ≢ a → y ≢ b → Agree x y o) → 27 ≡ first 27 (differs_by t s i j rest a b)
   unfolding differs_by
-  no-case la lb f =
-      sym (first-none (differs_by t s i j rest a b) 27
-      (λ c h. ap not (eq-eqb _ _ (every-case la lb f (c / 9) (c / 3 % 3) (c % 3) (omega arith) (omega arith) (omega arith)))))
+  no_case la lb f =
+      sym (first_none (differs_by t s i j rest a b) 27
+      (λ c h. ap not (eq-eqb _ _ (every_case la lb f (c / 9) (c / 3 % 3) (c % 3) (omega arith) (omega arith) (omega arith)))))

@@ -13,7 +13,7 @@ use Rattle.exchange.specs.Lanes.{Given}
 use Rattle.exchange.specs.Pairs.{Tells}
 use Rattle.plain.specs.Plain.{Only, Plain}
 use Rattle.plain.proofs.Sets.{both_in}
-use Rattle.plain.proofs.Alike.{plain-agree}
+use Rattle.plain.proofs.Alike.{plain_agree}
 
 others_in : (s : List (List ℕ)) (all i j k v r : ℕ) → bit (others_of s all i j k v) r ≡ true → bit all r ≡ true
 unfolding others_of
@@ -30,7 +30,7 @@ pub plain_tells : (t : Table) (s : List (List ℕ)) (outs : List ℕ) (all i j n
 plain_tells t s outs all i j n steady edges d ea p o = record {
   sound = λ e. record {
     at = λ v.
-        let r = plain-agree t s outs n i j d (others_of s all i j n v) all steady edges (λ k h. others_in s all i j n v k h) p.rows p.first p.second o in
+        let r = plain_agree t s outs n i j d (others_of s all i j n v) all steady edges (λ k h. others_in s all i j n v k h) p.rows p.first p.second o in
         rw (d.cells_are, ea, d.inputs_are) at r;
   };
   whole = λ h. refl;

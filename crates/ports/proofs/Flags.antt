@@ -125,11 +125,11 @@ first_of w q l count j h e = go (same w q) (ltb j count) refl (find w l) e
 module _ (w q : List ℕ) (l : List (List ℕ)) (fs : List Bool) (count j : ℕ) (d : Distinct (q ∷ l)) (few : length (q ∷ l) ≤ length fs)
     (some-port : 1 ≤ count) (e : placed count j ≡ find w (q ∷ l)) where
   -- the grammar's test of a name in an `input` list
-  pub fresh-is : (not (same w q) && member w (down (q ∷ l) fs)) ≡ (not (eqb j 0) && is_down (placed count j) fs)
-  fresh-is = rw (first_of w q l count j some-port e, down_member w (q ∷ l) fs d few, e)
+  pub fresh_is : (not (same w q) && member w (down (q ∷ l) fs)) ≡ (not (eqb j 0) && is_down (placed count j) fs)
+  fresh_is = rw (first_of w q l count j some-port e, down_member w (q ∷ l) fs d few, e)
 
-  pub fresh-raised : (not (eqb j 0) && is_down (placed count j) fs) ≡ true → remove w (down (q ∷ l) fs) ≡ down (q ∷ l) (set fs j true)
-  fresh-raised x =
+  pub fresh_raised : (not (eqb j 0) && is_down (placed count j) fs) ≡ true → remove w (down (q ∷ l) fs) ≡ down (q ∷ l) (set fs j true)
+  fresh_raised x =
       let y : is_down (placed count j) fs ≡ true = (both (not (eqb j 0)) (is_down (placed count j) fs) x).1 in
       down_remove w (q ∷ l) fs (rw (← e) y) few ∙ rw (← e) (go (ltb j count) y)
     where

@@ -12,30 +12,30 @@ use lib.Seq.{drop-cons, drop-append-le, get_or-set_same, get_or-set_other}
 use borrow.Author.Tests.{lt-ltb, le-ltb}
 use Rattle.base.specs.Limits.{input_limit}
 use Rattle.base.specs.Listed.{listed}
-use Rattle.base.proofs.Listed.{listed-length, listed_at, listed-is}
+use Rattle.base.proofs.Listed.{listed_length, listed_at, listed_is}
 use Rattle.text.specs.Words.{same, member}
 use Rattle.text.specs.Places.{part}
 use Rattle.grammar.specs.Header.{ports, remove, none_left}
 use Rattle.ports.specs.Ports.{port_at, ports_of, placed, find, down, is_down, all_up, Distinct, Kept}
-use Rattle.ports.proofs.Flags.{member_find, distinct_snoc, fresh-is, fresh-raised, output_left, output_raised, none_left_lem}
+use Rattle.ports.proofs.Flags.{member_find, distinct_snoc, fresh_is, fresh_raised, output_left, output_raised, none_left_lem}
 
 module _ (t starts ends : List ℕ) where
-  pub ports-length : (m : ℕ) → length (ports_of t starts ends m) ≡ m
-  ports-length m = listed-length (port_at t starts ends) m
+  pub ports_length : (m : ℕ) → length (ports_of t starts ends m) ≡ m
+  ports_length m = listed_length (port_at t starts ends) m
 
-  pub ports-at : (m k : ℕ) → k < m → get_or (ports_of t starts ends m) k [] ≡ port_at t starts ends k
-  ports-at m k h = listed_at (port_at t starts ends) m k [] h
+  pub ports_at : (m k : ℕ) → k < m → get_or (ports_of t starts ends m) k [] ≡ port_at t starts ends k
+  ports_at m k h = listed_at (port_at t starts ends) m k [] h
 
   -- the output, and the inputs behind it
-  pub ports-cons : (m : ℕ) → ports_of t starts ends (m + 1) ≡ port_at t starts ends 0 ∷ drop 1 (ports_of t starts ends (m + 1))
-  ports-cons m =
-      drop-cons (ports_of t starts ends (m + 1)) 0 [] (omega (arith, ports-length (m + 1)))
-      ∙ ap (λ (w : List ℕ). w ∷ drop 1 (ports_of t starts ends (m + 1))) (ports-at (m + 1) 0 (omega arith))
+  pub ports_cons : (m : ℕ) → ports_of t starts ends (m + 1) ≡ port_at t starts ends 0 ∷ drop 1 (ports_of t starts ends (m + 1))
+  ports_cons m =
+      drop-cons (ports_of t starts ends (m + 1)) 0 [] (omega (arith, ports_length (m + 1)))
+      ∙ ap (λ (w : List ℕ). w ∷ drop 1 (ports_of t starts ends (m + 1))) (ports_at (m + 1) 0 (omega arith))
 
   -- a name is one of the ports
   module _ (q w : List ℕ) (m j : ℕ) (first : port_at t starts ends 0 ≡ q) (e : placed (m + 1) j ≡ find w (ports_of t starts ends (m + 1))) where
     these : (l : List ℕ) → member l (q ∷ drop 1 (ports_of t starts ends (m + 1))) ≡ member l (ports_of t starts ends (m + 1))
-    these l = ap (λ (v : List (List ℕ)). member l v) (sym (ports-cons m ∙ ap (λ (v : List ℕ). v ∷ drop 1 (ports_of t starts ends (m + 1))) first))
+    these l = ap (λ (v : List (List ℕ)). member l v) (sym (ports_cons m ∙ ap (λ (v : List ℕ). v ∷ drop 1 (ports_of t starts ends (m + 1))) first))
 
     pub known : j ≤ m → member w (q ∷ drop 1 (ports_of t starts ends (m + 1))) ≡ true
     known h = these w ∙ member_find w (ports_of t starts ends (m + 1)) (m + 1) j e ∙ lt-ltb j (m + 1) (omega arith)
@@ -50,28 +50,28 @@ module _ (t starts ends : List ℕ) where
     ps = ports_of t starts ends (n + 1)
 
     enough : length (port_at t starts ends 0 ∷ drop 1 ps) ≤ length fs
-    enough = omega (arith, ap (λ (l : List (List ℕ)). length l) (ports-cons n), ports-length (n + 1))
+    enough = omega (arith, ap (λ (l : List (List ℕ)). length l) (ports_cons n), ports_length (n + 1))
 
-    pub fresh-test : (not (same w (port_at t starts ends 0)) && member w (down ps fs)) ≡ (not (eqb j 0) && is_down (placed (n + 1) j) fs)
-    fresh-test = rw (ports-cons n) (fresh-is w (port_at t starts ends 0) (drop 1 ps) fs (n + 1) j (rw (ports-cons n) at d) enough (omega arith) (rw (ports-cons n) at e))
+    pub fresh_test : (not (same w (port_at t starts ends 0)) && member w (down ps fs)) ≡ (not (eqb j 0) && is_down (placed (n + 1) j) fs)
+    fresh_test = rw (ports_cons n) (fresh_is w (port_at t starts ends 0) (drop 1 ps) fs (n + 1) j (rw (ports_cons n) at d) enough (omega arith) (rw (ports_cons n) at e))
 
-    pub fresh-raise : (not (eqb j 0) && is_down (placed (n + 1) j) fs) ≡ true → remove w (down ps fs) ≡ down ps (set fs j true)
-    fresh-raise x = rw (ports-cons n) (fresh-raised w (port_at t starts ends 0) (drop 1 ps) fs (n + 1) j (rw (ports-cons n) at d) enough (omega arith) (rw (ports-cons n) at e) x)
+    pub fresh_raise : (not (eqb j 0) && is_down (placed (n + 1) j) fs) ≡ true → remove w (down ps fs) ≡ down ps (set fs j true)
+    fresh_raise x = rw (ports_cons n) (fresh_raised w (port_at t starts ends 0) (drop 1 ps) fs (n + 1) j (rw (ports_cons n) at d) enough (omega arith) (rw (ports_cons n) at e) x)
 
   -- the output in a declaration
   module _ (fs : List Bool) (n : ℕ) (d : Distinct (ports_of t starts ends (n + 1))) (long : 1 ≤ length fs) where
     alone : member (port_at t starts ends 0) (drop 1 (ports_of t starts ends (n + 1))) ≡ false
-    alone = (rw (ports-cons n) at d).0
+    alone = (rw (ports_cons n) at d).0
 
-    pub output-test : member (port_at t starts ends 0) (down (ports_of t starts ends (n + 1)) fs) ≡ not (get_or fs 0 false)
-    output-test = rw (ports-cons n) (output_left (port_at t starts ends 0) (drop 1 (ports_of t starts ends (n + 1))) fs alone long)
+    pub output_test : member (port_at t starts ends 0) (down (ports_of t starts ends (n + 1)) fs) ≡ not (get_or fs 0 false)
+    output_test = rw (ports_cons n) (output_left (port_at t starts ends 0) (drop 1 (ports_of t starts ends (n + 1))) fs alone long)
 
-    pub output-raise : remove (port_at t starts ends 0) (down (ports_of t starts ends (n + 1)) fs) ≡ down (ports_of t starts ends (n + 1)) (set fs 0 true)
-    output-raise = rw (ports-cons n) (output_raised (port_at t starts ends 0) (drop 1 (ports_of t starts ends (n + 1))) fs alone long)
+    pub output_raise : remove (port_at t starts ends 0) (down (ports_of t starts ends (n + 1)) fs) ≡ down (ports_of t starts ends (n + 1)) (set fs 0 true)
+    output_raise = rw (ports_cons n) (output_raised (port_at t starts ends 0) (drop 1 (ports_of t starts ends (n + 1))) fs alone long)
 
     -- no port is left
     pub all_up_lem : none_left (down (ports_of t starts ends (n + 1)) fs) ≡ all_up (n + 1) fs
-    all_up_lem = none_left_lem (ports_of t starts ends (n + 1)) fs ∙ ap (λ (m : ℕ). all_up m fs) (ports-length (n + 1))
+    all_up_lem = none_left_lem (ports_of t starts ends (n + 1)) fs ∙ ap (λ (m : ℕ). all_up m fs) (ports_length (n + 1))
 
   module _ (b f n : ℕ) (ls : length starts ≡ input_limit + 1) (le : length ends ≡ input_limit + 1) (h : n < input_limit) where
     abbrev starts' : List ℕ
@@ -87,22 +87,22 @@ module _ (t starts ends : List ℕ) where
     newest = rw (get_or-set_same starts (n + 1) b 0 (omega arith), get_or-set_same ends (n + 1) f 0 (omega arith))
 
     -- one port more
-    pub ports-more : ports_of t starts' ends' (n + 1 + 1) ≡ ports_of t starts ends (n + 1) ++ (part t b f ∷ [])
+    pub ports_more : ports_of t starts' ends' (n + 1 + 1) ≡ ports_of t starts ends (n + 1) ++ (part t b f ∷ [])
     unfolding listed
-    ports-more =
+    ports_more =
         let same : ports_of t starts' ends' (n + 1) ≡ ports_of t starts ends (n + 1) =
-        listed-is (port_at t starts' ends') (n + 1) (ports_of t starts ends (n + 1)) [] (ports-length (n + 1)) (λ k g. earlier k g ∙ sym (ports-at (n + 1) k g)) in
+        listed_is (port_at t starts' ends') (n + 1) (ports_of t starts ends (n + 1)) [] (ports_length (n + 1)) (λ k g. earlier k g ∙ sym (ports_at (n + 1) k g)) in
         rw (add-one (n + 1)) (ap (λ (l : List (List ℕ)). l ++ (port_at t starts' ends' (n + 1) ∷ [])) same ∙ ap (λ (w : List ℕ). ports_of t starts ends (n + 1) ++ (w ∷ [])) newest)
 
-    pub inputs-more : drop 1 (ports_of t starts' ends' (n + 1 + 1)) ≡ drop 1 (ports_of t starts ends (n + 1)) ++ (part t b f ∷ [])
-    inputs-more = rw ports-more (drop-append-le 1 (ports_of t starts ends (n + 1)) (part t b f ∷ []) (omega (arith, ports-length (n + 1))))
+    pub inputs_more : drop 1 (ports_of t starts' ends' (n + 1 + 1)) ≡ drop 1 (ports_of t starts ends (n + 1)) ++ (part t b f ∷ [])
+    inputs_more = rw ports_more (drop-append-le 1 (ports_of t starts ends (n + 1)) (part t b f ∷ []) (omega (arith, ports_length (n + 1))))
 
     pub kept_more : (a e : ℕ) → Kept t a e starts ends n → member (part t b f) (port_at t starts ends 0 ∷ drop 1 (ports_of t starts ends (n + 1))) ≡ false
         → Kept t a e starts' ends' (n + 1)
     kept_more a e k x = record {
       few = omega arith;
       output = earlier 0 (omega arith) ∙ k.output;
-      distinct = rw ports-more (distinct_snoc (part t b f) (ports_of t starts ends (n + 1)) k.distinct (ap (λ (l : List (List ℕ)). member (part t b f) l) (ports-cons n) ∙ x));
+      distinct = rw ports_more (distinct_snoc (part t b f) (ports_of t starts ends (n + 1)) k.distinct (ap (λ (l : List (List ℕ)). member (part t b f) l) (ports_cons n) ∙ x));
     }
 
 pub kept_none : (t : List ℕ) (a e : ℕ) (starts ends : List ℕ) → Kept t a e (a ∷ starts) (e ∷ ends) 0

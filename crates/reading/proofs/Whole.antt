@@ -12,7 +12,7 @@ use Rattle.value.specs.declared.Ternary.{Ternary}
 use Rattle.table.specs.Places.{area_size}
 use Rattle.table.specs.Table.{Row, Table, Shaped}
 use Rattle.table.specs.Area.{encode, decode}
-use Rattle.table.proofs.Encoding.{decode-encode}
+use Rattle.table.proofs.Encoding.{decode_encode}
 use Rattle.writing.specs.Written.{head_of, head_fits, head_written}
 use Rattle.text.specs.Bytes.{bytes}
 use Rattle.text.specs.Reader.{Result, got, refused, Reader, bind, ◌>>=◌, ◌>>◌, give, skip, keyword, Named, name}
@@ -61,34 +61,34 @@ unfoldable table_of : Named → Head → List Row → Table
 table_of w x l = record { name = w.spelt; sequential = x.sequential; inputs = x.inputs; start = x.start; rows = l }
 
 module _ (k : ℕ) (s : List ℕ) where
-  primitive-first : (c p : ℕ) → keyword (bytes "primitive") k s ≡ refused c p → primitive k s ≡ refused c p
+  primitive_first : (c p : ℕ) → keyword (bytes "primitive") k s ≡ refused c p → primitive k s ≡ refused c p
   unfolding primitive ◌>>=◌
-  primitive-first c p e = rw e
+  primitive_first c p e = rw e
 
   module _ (u : List ℕ) (i : ℕ) (z : List ℕ) (e : keyword (bytes "primitive") k s ≡ got u i z) where
-    primitive-name : (c p : ℕ) → name i z ≡ refused c p → primitive k s ≡ refused c p
+    primitive_name : (c p : ℕ) → name i z ≡ refused c p → primitive k s ≡ refused c p
     unfolding primitive ◌>>=◌
-    primitive-name c p f = rw (e, f)
+    primitive_name c p f = rw (e, f)
 
     module _ (w : Named) (j : ℕ) (y : List ℕ) (f : name i z ≡ got w j y) where
-      primitive-body : primitive k s ≡ bind (head j y) (λ x. rows row_limit x.sequential x.inputs [] >>= λ l. keyword (bytes "endprimitive") >>= λ v. give (table_of w x l))
+      primitive_body : primitive k s ≡ bind (head j y) (λ x. rows row_limit x.sequential x.inputs [] >>= λ l. keyword (bytes "endprimitive") >>= λ v. give (table_of w x l))
       unfolding table_of
-      primitive-body =
+      primitive_body =
           opened k s u i z e w j y f
           ∙ head_then (λ n sequential start. rows row_limit sequential n [] >>= λ l. keyword (bytes "endprimitive") >>= λ v. give (record { name = w.spelt; sequential = sequential; inputs = n; start = start; rows = l })) j y
 
-      primitive-head : (c p : ℕ) → head j y ≡ refused c p → primitive k s ≡ refused c p
-      primitive-head c p g = primitive-body ∙ rw g
+      primitive_head : (c p : ℕ) → head j y ≡ refused c p → primitive k s ≡ refused c p
+      primitive_head c p g = primitive_body ∙ rw g
 
       module _ (x : Head) (m : ℕ) (r : List ℕ) (g : head j y ≡ got x m r) where
-        primitive-stop : (c p : ℕ) → rows row_limit x.sequential x.inputs [] m r ≡ refused c p → primitive k s ≡ refused c p
+        primitive_stop : (c p : ℕ) → rows row_limit x.sequential x.inputs [] m r ≡ refused c p → primitive k s ≡ refused c p
         unfolding ◌>>=◌
-        primitive-stop c p h = primitive-body ∙ rw (g, h)
+        primitive_stop c p h = primitive_body ∙ rw (g, h)
 
-        primitive-rows : (l : List Row) (n : ℕ) (q : List ℕ) → rows row_limit x.sequential x.inputs [] m r ≡ got l n q
+        primitive_rows : (l : List Row) (n : ℕ) (q : List ℕ) → rows row_limit x.sequential x.inputs [] m r ≡ got l n q
             → primitive k s ≡ bind (keyword (bytes "endprimitive") n q) (λ v. give (table_of w x l))
         unfolding ◌>>=◌
-        primitive-rows l n q h = primitive-body ∙ rw (g, h)
+        primitive_rows l n q h = primitive_body ∙ rw (g, h)
 
 -- ---- the head in the area
 
@@ -104,18 +104,18 @@ module _ (w : Named) (x : Head) (short : length w.spelt ≤ name_limit) (few : x
   abbrev begun : Table
   begun = head_of w.spelt x.sequential x.inputs x.start
 
-  head-drawn : (a : List ℕ) → length a ≡ area_size → d ≡ head_written a begun → d ≡ encode begun
+  head_drawn : (a : List ℕ) → length a ≡ area_size → d ≡ head_written a begun → d ≡ encode begun
   unfolding head_written head_fits head_of
-  head-drawn a long e = e ∙ rw (eq-eqb (length a) area_size long, le-leb (length w.spelt) name_limit short, le-leb x.inputs input_limit few)
+  head_drawn a long e = e ∙ rw (eq-eqb (length a) area_size long, le-leb (length w.spelt) name_limit short, le-leb x.inputs input_limit few)
 
-  head-ready : d ≡ encode begun → Begun d x.inputs
-  head-ready e = rw e (head_begun w.spelt x.sequential x.inputs x.start short few)
+  head_ready : d ≡ encode begun → Begun d x.inputs
+  head_ready e = rw e (head_begun w.spelt x.sequential x.inputs x.start short few)
 
-  table-drawn : d ≡ encode begun → (l : List Row) → encode (with_rows (decode d) l) ≡ encode (table_of w x l)
+  table_drawn : d ≡ encode begun → (l : List Row) → encode (with_rows (decode d) l) ≡ encode (table_of w x l)
   unfolding table_of head_of
-  table-drawn e l =
+  table_drawn e l =
       let s : Shaped begun = record { bounded = record { name = short; inputs = few; rows = omega arith }; columns = λ i g. absurd (omega arith) } in
-      rw (e, decode-encode begun s)
+      rw (e, decode_encode begun s)
 
 -- ---- the last word, and the answer
 
@@ -136,67 +136,67 @@ module _ (t : List ℕ) (at : ℕ) (f : ℕ → ℕ → List ℕ) (s : Step) (op
   abbrev Draws : List ℕ → Step → Type 0
   Draws d z = drawn encode (primitive at (drop at t)) ≡ meant t (λ x e. d) z
 
-  pub word-refused : (c p : ℕ) → s ≡ Refused c p → (d : List ℕ) → Draws d s
-  word-refused c p e d = rw (primitive-first at (drop at t) c p (rw e at opens), e)
+  pub word_refused : (c p : ℕ) → s ≡ Refused c p → (d : List ℕ) → Draws d s
+  word_refused c p e d = rw (primitive_first at (drop at t) c p (rw e at opens), e)
 
   module _ (x i : ℕ) (here : s ≡ At x i) (w : Step) (calls : name i (drop i t) ≡ meant t (named t) w) where
-    said-word : keyword (bytes "primitive") at (drop at t) ≡ got (f x i) i (drop i t)
-    said-word = rw here at opens
+    said_word : keyword (bytes "primitive") at (drop at t) ≡ got (f x i) i (drop i t)
+    said_word = rw here at opens
 
-    pub name-refused : (c p : ℕ) → w ≡ Refused c p → (d : List ℕ) → Draws d w
-    name-refused c p e d = rw (primitive-name at (drop at t) _ _ _ said-word c p (rw e at calls), e)
+    pub name_refused : (c p : ℕ) → w ≡ Refused c p → (d : List ℕ) → Draws d w
+    name_refused c p e d = rw (primitive_name at (drop at t) _ _ _ said_word c p (rw e at calls), e)
 
     module _ (b j : ℕ) (there : w ≡ At b j) (h : HeadStep) (heads : head j (drop j t) ≡ means t (λ y. y) h) where
-      said-name : name i (drop i t) ≡ got (named t b j) j (drop j t)
-      said-name = rw there at calls
+      said_name : name i (drop i t) ≡ got (named t b j) j (drop j t)
+      said_name = rw there at calls
 
-      pub head-refused : (c p : ℕ) → h ≡ HeadRefused c p → (z : Step) → z ≡ raised h → (d : List ℕ) → Draws d z
-      head-refused c p e z q d = rw (primitive-head at (drop at t) _ _ _ said-word _ _ _ said-name c p (rw e at heads), q, e)
+      pub head_refused : (c p : ℕ) → h ≡ HeadRefused c p → (z : Step) → z ≡ raised h → (d : List ℕ) → Draws d z
+      head_refused c p e z q d = rw (primitive_head at (drop at t) _ _ _ said_word _ _ _ said_name c p (rw e at heads), q, e)
 
       module _ (y : Head) (m : ℕ) (behind : h ≡ HeadAt y m) (a d v : List ℕ) (long : length a ≡ area_size) (same : v ≡ part t b j)
           (written : d ≡ head_written a (head_of v y.sequential y.inputs y.start)) where
-        said-head : head j (drop j t) ≡ got y m (drop m t)
-        said-head = rw behind at heads
+        said_head : head j (drop j t) ≡ got y m (drop m t)
+        said_head = rw behind at heads
 
         short : length (part t b j) ≤ name_limit
-        short = rw said-name at (name_short.post i (drop i t))
+        short = rw said_name at (name_short.post i (drop i t))
 
         few : y.inputs ≤ input_limit
-        few = rw said-head at (head_few.post j (drop j t))
+        few = rw said_head at (head_few.post j (drop j t))
 
         ready : d ≡ encode (head_of (part t b j) y.sequential y.inputs y.start)
-        ready = head-drawn (named t b j) y short few d a long (rw same at written)
+        ready = head_drawn (named t b j) y short few d a long (rw same at written)
 
-        pub head-begins : Begun d y.inputs
-        head-begins = head-ready (named t b j) y short few d ready
+        pub head_begins : Begun d y.inputs
+        head_begins = head_ready (named t b j) y short few d ready
 
         module _ (r : Step) (o : List ℕ) (follow : drawn (λ l. encode (with_rows (decode d) l)) (rows row_limit y.sequential y.inputs [] m (drop m t)) ≡ meant t (λ x e. o) r) where
-          pub rows-refused : (c p : ℕ) → r ≡ Refused c p → Draws o r
-          rows-refused c p e =
-              rw (primitive-stop at (drop at t) _ _ _ said-word _ _ _ said-name _ _ _ said-head c p (drawn_refused _ (rows row_limit y.sequential y.inputs [] m (drop m t)) c p (rw e at follow)), e)
+          pub rows_refused : (c p : ℕ) → r ≡ Refused c p → Draws o r
+          rows_refused c p e =
+              rw (primitive_stop at (drop at t) _ _ _ said_word _ _ _ said_name _ _ _ said_head c p (drawn_refused _ (rows row_limit y.sequential y.inputs [] m (drop m t)) c p (rw e at follow)), e)
 
-          pub primitive-drawn : (x n : ℕ) → r ≡ At x n → (g : ℕ → ℕ → List ℕ) (z : Step) → keyword (bytes "endprimitive") n (drop n t) ≡ meant t g z → Draws o z
-          primitive-drawn x n e g z ends =
+          pub primitive_drawn : (x n : ℕ) → r ≡ At x n → (g : ℕ → ℕ → List ℕ) (z : Step) → keyword (bytes "endprimitive") n (drop n t) ≡ meant t g z → Draws o z
+          primitive_drawn x n e g z ends =
               let l = drawn_got _ (rows row_limit y.sequential y.inputs [] m (drop m t)) o n (drop n t) (rw e at follow) in
-              rw (primitive-rows at (drop at t) _ _ _ said-word _ _ _ said-name _ _ _ said-head l.0 n (drop n t) l.1, ends)
-              (last_word t g (table_of (named t b j) y l.0) o z (sym (table-drawn (named t b j) y short few d ready l.0) ∙ l.2))
+              rw (primitive_rows at (drop at t) _ _ _ said_word _ _ _ said_name _ _ _ said_head l.0 n (drop n t) l.1, ends)
+              (last_word t g (table_of (named t b j) y l.0) o z (sym (table_drawn (named t b j) y short few d ready l.0) ∙ l.2))
 
 -- ---- the call
 
 module _ (t : List ℕ) (start : ℕ) (area : List ℕ) (size : length area ≡ area_size) (short : length t ≤ text_limit) (inside : start ≤ length t)
     (i : ℕ) (blank : skip start (drop start t) ≡ got tt i (drop i t)) where
-  said-from : read_into t start area ≡ told area (or_end (got tt i (drop i t)))
+  said_from : read_into t start area ≡ told area (or_end (got tt i (drop i t)))
   unfolding read_into read
-  said-from = rw (eq-eqb (length area) area_size size, le-leb (length t) text_limit short, le-leb start (length t) inside, blank)
+  said_from = rw (eq-eqb (length area) area_size size, le-leb (length t) text_limit short, le-leb start (length t) inside, blank)
 
-  pub read-end : length t ≤ i → read_into t start area ≡ out End area
-  read-end h = rw (said-from, ends_there t i h)
+  pub read_end : length t ≤ i → read_into t start area ≡ out End area
+  read_end h = rw (said_from, ends_there t i h)
 
   module _ (more : i < length t) (d : List ℕ) (s : Step) (one : drawn encode (primitive i (drop i t)) ≡ meant t (λ x e. d) s) where
-    pub read-refused : (c p : ℕ) → s ≡ Refused c p → (r : Reading) → r ≡ refusal_of s → read_into t start area ≡ out r area
-    read-refused c p e r q = rw (said-from, begins_there t i more, drawn_refused encode (primitive i (drop i t)) c p (rw e at one), q, e)
+    pub read_refused : (c p : ℕ) → s ≡ Refused c p → (r : Reading) → r ≡ refusal_of s → read_into t start area ≡ out r area
+    read_refused c p e r q = rw (said_from, begins_there t i more, drawn_refused encode (primitive i (drop i t)) c p (rw e at one), q, e)
 
     pub read_table : (x e : ℕ) → s ≡ At x e → length area ≡ length d → (b : List ℕ) → b ≡ d → read_into t start area ≡ out (TableAt e) b
     read_table x e q same b w =
         let l = drawn_got encode (primitive i (drop i t)) d e (drop e t) (rw q at one) in
-        rw (said-from, begins_there t i more, l.1, l.2, w)
+        rw (said_from, begins_there t i more, l.1, l.2, w)

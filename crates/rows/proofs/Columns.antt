@@ -47,48 +47,48 @@ module _ (t : List ℕ) (at : ℕ) (sequential edge : Bool) (l : List Symbol) (f
   abbrev Draws : List ℕ → Step → Type 0
   Draws b z = drawn f (bind (behind l (columns 0 edge at (drop at t))) (row_tail sequential)) ≡ meant t (λ x e. b) z
 
-  pub colon-refused : (n p : ℕ) → c ≡ Refused n p → (b : List ℕ) → Draws b c
-  colon-refused n p e b = rw (colon, e)
+  pub colon_refused : (n p : ℕ) → c ≡ Refused n p → (b : List ℕ) → Draws b c
+  colon_refused n p e b = rw (colon, e)
 
   module _ (x i : ℕ) (e : c ≡ At x i) (s : Piece) (said : state sequential i (drop i t) ≡ means t as_level s) where
-    pub state-refused : (n p : ℕ) → s ≡ PieceRefused n p → (z : Step) → z ≡ raised s → (b : List ℕ) → Draws b z
+    pub state_refused : (n p : ℕ) → s ≡ PieceRefused n p → (z : Step) → z ≡ raised s → (b : List ℕ) → Draws b z
     unfolding row_tail ◌>>=◌
-    state-refused n p g z q b = rw (colon, e, said, q, g)
+    state_refused n p g z q b = rw (colon, e, said, q, g)
 
     module _ (y : Token) (j : ℕ) (g : s ≡ PieceAt y j) (o : Piece) (answer : field (output_said sequential) j (drop j t) ≡ means t as_output o) where
-      pub output-refused : (n p : ℕ) → o ≡ PieceRefused n p → (z : Step) → z ≡ raised o → (b : List ℕ) → Draws b z
+      pub output_refused : (n p : ℕ) → o ≡ PieceRefused n p → (z : Step) → z ≡ raised o → (b : List ℕ) → Draws b z
       unfolding row_tail ◌>>=◌
-      output-refused n p h z q b = rw (colon, e, said, g, answer, q, h)
+      output_refused n p h z q b = rw (colon, e, said, g, answer, q, h)
 
       module _ (v : Token) (k : ℕ) (h : o ≡ PieceAt v k) (u : ℕ → ℕ → ℕ) (m : Step) (end : sign ";" k (drop k t) ≡ meant t u m) where
         pub end_refused : (n p : ℕ) → m ≡ Refused n p → (b : List ℕ) → Draws b m
         unfolding row_tail ◌>>=◌
         end_refused n p q b = rw (colon, e, said, g, answer, h, end, q)
 
-        pub row-drawn : (a n : ℕ) → m ≡ At a n → (b : List ℕ) → b ≡ f (record { symbols = l; state = as_level y; output = as_output v }) → Draws b (At n n)
+        pub row_drawn : (a n : ℕ) → m ≡ At a n → (b : List ℕ) → b ≡ f (record { symbols = l; state = as_level y; output = as_output v }) → Draws b (At n n)
         unfolding row_tail ◌>>=◌
-        row-drawn a n q b w = rw (colon, e, said, g, answer, h, end, q, append-nil, w)
+        row_drawn a n q b w = rw (colon, e, said, g, answer, h, end, q, append-nil, w)
 
 -- ---- one column after the other
 
 module _ (t : List ℕ) (at : ℕ) (sequential : Bool) (n : ℕ) (l : List Symbol) (i : ℕ) (edge : Bool) (column : ℕ)
     (inv : columns n sequential at (drop at t) ≡ behind (take column l) (columns (n - column) edge i (drop i t))) where
   module _ (less : column < n) (c : Piece) (said : columnRead edge i (drop i t) ≡ means t as_symbol c) where
-    said-column : columns n sequential at (drop at t)
+    said_column : columns n sequential at (drop at t)
         ≡ behind (take column l) (bind (means t as_symbol c) (λ x j z. bind (columns (n - (column + 1)) (edge && not (is_edge x)) j z) (λ m. give (x ∷ m))))
-    said-column =
+    said_column =
         let r : n - column ≡ suc (n - (column + 1)) = omega arith in
         rw (r, columns_more (n - (column + 1)) edge i (drop i t), said) at inv
 
-    pub column-refused : (k p : ℕ) → c ≡ PieceRefused k p → (z : Step) → z ≡ raised c → (f : Row → List ℕ) (b : List ℕ)
+    pub column_refused : (k p : ℕ) → c ≡ PieceRefused k p → (z : Step) → z ≡ raised c → (f : Row → List ℕ) (b : List ℕ)
         → drawn f (row sequential n at (drop at t)) ≡ meant t (λ x e. b) z
-    column-refused k p e z q f b = rw (row_is sequential n at (drop at t), said-column, q, e)
+    column_refused k p e z q f b = rw (row_is sequential n at (drop at t), said_column, q, e)
 
-    pub column-more : (w : Token) (j : ℕ) → c ≡ PieceAt w j → (y : Symbol) → y ≡ as_symbol w → (b : Bool) → b ≡ is_edge y → column < length l
+    pub column_more : (w : Token) (j : ℕ) → c ≡ PieceAt w j → (y : Symbol) → y ≡ as_symbol w → (b : Bool) → b ≡ is_edge y → column < length l
         → columns n sequential at (drop at t) ≡ behind (take (column + 1) (set l column y)) (columns (n - (column + 1)) (edge && not b) j (drop j t))
-    column-more w j e y v b h g =
+    column_more w j e y v b h g =
         let q : take (column + 1) (set l column y) ≡ take column l ++ (y ∷ []) = rw add-one (take-suc-set l column y g) in
-        rw (said-column, e, ← v, q, h) (behind_more (take column l) y (columns (n - (column + 1)) (edge && not (is_edge y)) j (drop j t)))
+        rw (said_column, e, ← v, q, h) (behind_more (take column l) y (columns (n - (column + 1)) (edge && not (is_edge y)) j (drop j t)))
 
   pub columns_read : n ≤ column → (k : ℕ) → column ≡ k → row sequential n at (drop at t) ≡ bind (behind (take k l) (columns 0 edge i (drop i t))) (row_tail sequential)
   columns_read full k e = let r : n - column ≡ 0 = omega arith in rw (row_is sequential n at (drop at t), inv, r, e)

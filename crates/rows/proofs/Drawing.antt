@@ -15,7 +15,7 @@ use Rattle.value.specs.declared.Ternary.{Ternary}
 use Rattle.table.specs.Places.{inputs_at, area_size}
 use Rattle.table.specs.Table.{Row, Table, Bounded, Shaped, row_at, no_row, with_row}
 use Rattle.table.specs.Area.{encode, decode}
-use Rattle.table.proofs.Encoding.{decode-encode, decode_inputs}
+use Rattle.table.proofs.Encoding.{decode_encode, decode_inputs}
 use Rattle.formed.specs.Tests.{contradict, row_agrees}
 use Rattle.writing.specs.Written.{head_of, row_written}
 use Rattle.writing.proofs.Rowlaws.{row_written_lem}
@@ -49,9 +49,9 @@ module _ (sequential : Bool) (n : ℕ) (before : List Row) (k : ℕ) (s : List �
     unfolding ◌>>=◌ check
     rows_on b x j z f a = rows_row b ∙ rw (f, a)
 
-  pub rows-full : begins begins_row r ≡ true → rows 0 sequential n before k s ≡ refused 6 p
+  pub rows_full : begins begins_row r ≡ true → rows 0 sequential n before k s ≡ refused 6 p
   unfolding rows ◌>>=◌ check
-  rows-full b = rw (e, ahead_is begins_row p r, b)
+  rows_full b = rw (e, ahead_is begins_row p r, b)
 
   pub rows_last : begins begins_row r ≡ false → rows 0 sequential n before k s ≡ bind (keyword (bytes "endtable") p r) (λ w. give before)
   unfolding rows ◌>>=◌ check
@@ -97,21 +97,21 @@ module _ (h : Table) (before : List Row) (x : Row) (s : Shaped (with_rows h befo
       (λ (l : i < length before). rw (row_same i l) (s.columns i l))
       (eq-or-lt_of_le {n = i} {m = length before} (omega (arith, length-append before (x ∷ []))))
 
-  pub shaped-more : Shaped (with_rows h (before ++ (x ∷ [])))
-  shaped-more = record {
+  pub shaped_more : Shaped (with_rows h (before ++ (x ∷ [])))
+  shaped_more = record {
     bounded = record { name = s.bounded.name; inputs = s.bounded.inputs; rows = omega (arith, length-append before (x ∷ [])) };
     columns = wide;
   }
 
-  pub written-more : row_written (encode (with_rows h before)) x ≡ encode (with_rows h (before ++ (x ∷ [])))
+  pub written_more : row_written (encode (with_rows h before)) x ≡ encode (with_rows h (before ++ (x ∷ [])))
   unfolding with_row
-  written-more = row_written_lem (with_rows h before) x s few
+  written_more = row_written_lem (with_rows h before) x s few
 
   -- the test of the area is the grammar's
-  pub agrees-is : row_agrees (decode (encode (with_rows h (before ++ (x ∷ []))))) (length before) ≡ agrees h.inputs before x
+  pub agrees_is : row_agrees (decode (encode (with_rows h (before ++ (x ∷ []))))) (length before) ≡ agrees h.inputs before x
   unfolding row_agrees agrees
-  agrees-is =
-      rw (decode-encode (with_rows h (before ++ (x ∷ []))) shaped-more)
+  agrees_is =
+      rw (decode_encode (with_rows h (before ++ (x ∷ []))) shaped_more)
       (every_same (λ (i : ℕ). not (contradict h.inputs (get_or (before ++ (x ∷ [])) i no_row) (get_or (before ++ (x ∷ [])) (length before) no_row))) (λ (i : ℕ). not (contradict h.inputs (get_or before i no_row) x)) (length before)
       (λ i g. rw (row_same i g, row_new)))
 
@@ -123,14 +123,14 @@ module _ {t : List ℕ} {at : ℕ} {h : Table} {sequential : Bool} {n : ℕ} {a 
   long' : length x.symbols ≡ h.inputs
   long' = long ∙ sym g.inputs
 
-  pub going-same : b ≡ encode (with_rows h (g.before ++ (x ∷ [])))
-  going-same = sym w ∙ ap (λ (l : List ℕ). row_written l x) g.same ∙ written-more h g.before x g.shaped few' long'
+  pub going_same : b ≡ encode (with_rows h (g.before ++ (x ∷ [])))
+  going_same = sym w ∙ ap (λ (l : List ℕ). row_written l x) g.same ∙ written_more h g.before x g.shaped few' long'
 
-  pub going-agrees : row_agrees (decode b) k ≡ agrees n g.before x
-  going-agrees =
-      rw going-same
+  pub going_agrees : row_agrees (decode b) k ≡ agrees n g.before x
+  going_agrees =
+      rw going_same
       (ap (λ (m : ℕ). row_agrees (decode (encode (with_rows h (g.before ++ (x ∷ []))))) m) (sym g.count)
-      ∙ agrees-is h g.before x g.shaped few' long'
+      ∙ agrees_is h g.before x g.shaped few' long'
       ∙ ap (λ (m : ℕ). agrees m g.before x) g.inputs)
 
   pub going_more : (j : ℕ) → rows row_limit sequential n [] at (drop at t) ≡ rows (row_limit - (k + 1)) sequential n (g.before ++ (x ∷ [])) j (drop j t) → Going t at h sequential n b j (k + 1)
@@ -139,13 +139,13 @@ module _ {t : List ℕ} {at : ℕ} {h : Table} {sequential : Bool} {n : ℕ} {a 
     count = length-append g.before (x ∷ []) ∙ omega (arith, g.count);
     few = omega arith;
     inputs = g.inputs;
-    same = going-same;
-    shaped = shaped-more h g.before x g.shaped few' long';
+    same = going_same;
+    shaped = shaped_more h g.before x g.shaped few' long';
     said = e;
   }
 
 pub going_inputs : {t : List ℕ} {at : ℕ} {h : Table} {sequential : Bool} {n : ℕ} {a : List ℕ} {i k : ℕ} → Going t at h sequential n a i k → get_or a inputs_at 0 ≡ n
-going_inputs {h = h} {a = a} g = sym (decode_inputs a) ∙ rw g.same (rw (decode-encode (with_rows h g.before) g.shaped) g.inputs)
+going_inputs {h = h} {a = a} g = sym (decode_inputs a) ∙ rw g.same (rw (decode_encode (with_rows h g.before) g.shaped) g.inputs)
 
 pub none_of : (l : List Row) (k : ℕ) → length l ≡ k → k ≡ 0 → no_rows l ≡ true
 none_of [] k e z = refl
@@ -161,7 +161,7 @@ pub head_begun : (name : List ℕ) (sequential : Bool) (n : ℕ) (start : Ternar
 unfolding head_of
 head_begun name sequential n start l m =
     let s : Shaped (head_of name sequential n start) = record { bounded = record { name = l; inputs = m; rows = omega arith }; columns = λ i g. absurd (omega arith) } in
-    let e = decode-encode (head_of name sequential n start) s in
+    let e = decode_encode (head_of name sequential n start) s in
     record { same = rw e refl; shaped = rw e s; none = rw e refl; inputs = rw e refl }
 
 -- the word behind the last row
@@ -189,41 +189,41 @@ module _ {t : List ℕ} {at : ℕ} {h : Table} {sequential : Bool} {n : ℕ} {a 
   Draws b z = drawn (λ l. encode (with_rows h l)) (rows row_limit sequential n [] at (drop at t)) ≡ meant t (λ x e. b) z
 
   module _ (less : k < row_limit) where
-    said-next : rows row_limit sequential n [] at (drop at t) ≡ rows (suc (row_limit - (k + 1))) sequential n g.before i (drop i t)
-    said-next = let r : row_limit - k ≡ suc (row_limit - (k + 1)) = omega arith in rw r at g.said
+    said_next : rows row_limit sequential n [] at (drop at t) ≡ rows (suc (row_limit - (k + 1))) sequential n g.before i (drop i t)
+    said_next = let r : row_limit - k ≡ suc (row_limit - (k + 1)) = omega arith in rw r at g.said
 
     module _ (none : begins begins_row (drop p t) ≡ false) (f : ℕ → ℕ → List ℕ) (z : Step) (word : keyword (bytes "endtable") p (drop p t) ≡ meant t f z) where
-      said-end : rows row_limit sequential n [] at (drop at t) ≡ bind (meant t f z) (λ w. check (not (no_rows g.before)) 3 p >> give g.before)
-      said-end = said-next ∙ rows_end sequential n g.before i (drop i t) p (drop p t) blank (row_limit - (k + 1)) none ∙ rw word
+      said_end : rows row_limit sequential n [] at (drop at t) ≡ bind (meant t f z) (λ w. check (not (no_rows g.before)) 3 p >> give g.before)
+      said_end = said_next ∙ rows_end sequential n g.before i (drop i t) p (drop p t) blank (row_limit - (k + 1)) none ∙ rw word
 
       pub end_refused : (c q : ℕ) → z ≡ Refused c q → (b : List ℕ) → Draws b z
-      end_refused c q e b = rw (said-end, e)
+      end_refused c q e b = rw (said_end, e)
 
       module _ (x j : ℕ) (e : z ≡ At x j) where
-        pub end-early : k ≡ 0 → Draws a (Refused 3 p)
+        pub end_early : k ≡ 0 → Draws a (Refused 3 p)
         unfolding ◌>>=◌ check
-        end-early q = rw (said-end, e, none_of g.before k g.count q)
+        end_early q = rw (said_end, e, none_of g.before k g.count q)
 
-        pub end-drawn : (k ≡ 0 → ⊥) → Draws a (At p j)
+        pub end_drawn : (k ≡ 0 → ⊥) → Draws a (At p j)
         unfolding ◌>>=◌ check
-        end-drawn q = rw (said-end, e, some_of g.before k g.count q, ← g.same)
+        end_drawn q = rw (said_end, e, some_of g.before k g.count q, ← g.same)
 
     module _ (some : begins begins_row (drop p t) ≡ true) (z : Step) (b : List ℕ) (one : drawn (row_written a) (row sequential n p (drop p t)) ≡ meant t (λ x e. b) z) where
       said_row : rows row_limit sequential n [] at (drop at t) ≡ bind (row sequential n p (drop p t)) (λ x. check (agrees n g.before x) 9 p >> rows (row_limit - (k + 1)) sequential n (g.before ++ (x ∷ [])))
-      said_row = said-next ∙ rows_row sequential n g.before i (drop i t) p (drop p t) blank (row_limit - (k + 1)) some
+      said_row = said_next ∙ rows_row sequential n g.before i (drop i t) p (drop p t) blank (row_limit - (k + 1)) some
 
-      pub row-refused : (c q : ℕ) → z ≡ Refused c q → (d : List ℕ) → Draws d z
-      row-refused c q e d = rw (said_row, drawn_refused (row_written a) (row sequential n p (drop p t)) c q (rw e at one), e)
+      pub row_refused : (c q : ℕ) → z ≡ Refused c q → (d : List ℕ) → Draws d z
+      row_refused c q e d = rw (said_row, drawn_refused (row_written a) (row sequential n p (drop p t)) c q (rw e at one), e)
 
       module _ (x j : ℕ) (e : z ≡ At x j) where
         taken : (y : Row) × (row sequential n p (drop p t) ≡ got y j (drop j t)) × (row_written a y ≡ b)
         taken = drawn_got (row_written a) (row sequential n p (drop p t)) b j (drop j t) (rw e at one)
 
-        long-taken : length taken.0.symbols ≡ n
-        long-taken = rw taken.1 at ((row_long sequential n).post p (drop p t))
+        long_taken : length taken.0.symbols ≡ n
+        long_taken = rw taken.1 at ((row_long sequential n).post p (drop p t))
 
         agreed : (v : Bool) → v ≡ row_agrees (decode b) k → v ≡ agrees n g.before taken.0
-        agreed v q = q ∙ going-agrees g less taken.0 long-taken b taken.2
+        agreed v q = q ∙ going_agrees g less taken.0 long_taken b taken.2
 
         pub row_apart : (v : Bool) → v ≡ row_agrees (decode b) k → v ≡ false → Draws b (Refused 9 p)
         unfolding ◌>>=◌ check
@@ -231,14 +231,14 @@ module _ {t : List ℕ} {at : ℕ} {h : Table} {sequential : Bool} {n : ℕ} {a 
 
         pub row_more : (v : Bool) → v ≡ row_agrees (decode b) k → v ≡ true → Going t at h sequential n b j (k + 1)
         unfolding ◌>>=◌ check
-        row_more v q u = going_more g less taken.0 long-taken b taken.2 j (said_row ∙ rw (taken.1, ← agreed v q, u))
+        row_more v q u = going_more g less taken.0 long_taken b taken.2 j (said_row ∙ rw (taken.1, ← agreed v q, u))
 
   module _ (full : row_limit ≤ k) where
-    said-last : rows row_limit sequential n [] at (drop at t) ≡ rows 0 sequential n g.before i (drop i t)
-    said-last = let r : row_limit - k ≡ 0 = omega arith in rw r at g.said
+    said_last : rows row_limit sequential n [] at (drop at t) ≡ rows 0 sequential n g.before i (drop i t)
+    said_last = let r : row_limit - k ≡ 0 = omega arith in rw r at g.said
 
-    pub full-refused : begins begins_row (drop p t) ≡ true → Draws a (Refused 6 p)
-    full-refused some = rw (said-last, rows-full sequential n g.before i (drop i t) p (drop p t) blank some)
+    pub full_refused : begins begins_row (drop p t) ≡ true → Draws a (Refused 6 p)
+    full_refused some = rw (said_last, rows_full sequential n g.before i (drop i t) p (drop p t) blank some)
 
-    pub full-drawn : begins begins_row (drop p t) ≡ false → (f : ℕ → ℕ → List ℕ) (z : Step) → keyword (bytes "endtable") p (drop p t) ≡ meant t f z → Draws a z
-    full-drawn none f z word = rw (said-last, rows_last sequential n g.before i (drop i t) p (drop p t) blank none, word) (last_draw t f h g.before a z g.same)
+    pub full_drawn : begins begins_row (drop p t) ≡ false → (f : ℕ → ℕ → List ℕ) (z : Step) → keyword (bytes "endtable") p (drop p t) ≡ meant t f z → Draws a z
+    full_drawn none f z word = rw (said_last, rows_last sequential n g.before i (drop i t) p (drop p t) blank none, word) (last_draw t f h g.before a z g.same)

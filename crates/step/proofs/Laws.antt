@@ -1,15 +1,13 @@
 -- What is known of a table's step: the laws that the theory of orders asks for, and what a step depends on. Assumes nothing.
-use Prim.Native.Nat.{ℕ, zero, suc, ◌-◌, ◌≤◌, ◌<◌}
+use Prim.Native.Nat.{ℕ, suc, ◌-◌, ◌≤◌}
 use mathlib.Core.Path.{◌≡◌, refl, sym, ap, ◌∙◌}
-use mathlib.Core.Bool.{Bool, true, cond, ◌&&◌}
+use mathlib.Core.Bool.{Bool, cond, ◌&&◌}
 use mathlib.Core.List.{List, [], ◌∷◌}
 use native.Mathlib.Decide.{ℕ_discrete}
-use native.Mathlib.Omega.{arith}
-use lib.ListN.{length, get_or}
+use lib.ListN.{length}
 use Rattle.base.proofs.Search.{every_same, first_same}
 use Rattle.value.specs.declared.Ternary.{Ternary}
-use Rattle.value.specs.declared.Ternary.TheVariants.{V0, Vx}
-use Rattle.value.specs.Value.{rank_of, same_value}
+use Rattle.value.specs.Value.{same_value}
 use Rattle.symbol.specs.Match.{match_field, match_level}
 use Rattle.table.specs.Table.{Row, Table, row_at, symbol_at}
 use Rattle.table.specs.Match.{field_of, columns_match, row_matches}
@@ -17,7 +15,7 @@ use Rattle.orders.specs.Vectors.{at, put}
 use Rattle.orders.specs.Order.{Laws, eval_order}
 use Rattle.orders.proofs.Places.{at_other, at_same, at_step, put_back, length_put}
 use Rattle.orders.proofs.Candidates.{same_of}
-use Rattle.step.specs.Step.{row_for, answer_or, answer_of, step_of}
+use Rattle.step.specs.Step.{row_for, answer_of, step_of}
 
 -- an unchanged input leaves the output, and only the considered input's current value counts
 pub laws : (t : Table) (n : ℕ) → Laws n (step_of t)

@@ -1,5 +1,5 @@
 -- One step of a table: document 01, "One step and one order", and source 004.
-use Rattle.std.specs.Prelude.{ℕ, ◌-◌, Bool, cond, List, ltb, length}
+use Rattle.std.specs.Prelude.{ℕ, ◌-◌, cond, List, ltb, length}
 use Rattle.base.specs.Search.{first}
 use Rattle.value.specs.declared.Ternary.{Ternary}
 use Rattle.value.specs.declared.Ternary.TheVariants.{Vx}

@@ -1,17 +1,16 @@
 -- What the sets of a symbol's offers tell. Assumes nothing.
 use Prim.Native.Nat.{ℕ, suc, ◌%◌}
 use mathlib.Core.Path.{◌≡◌, refl, sym, ap, ◌∙◌}
-use mathlib.Core.Bool.{Bool, true, false, not, cond, ◌&&◌}
+use mathlib.Core.Bool.{Bool, true, false, not, ◌&&◌}
 use native.Mathlib.Omega.{arith}
 use lib.Bits.{bit_and, and_self}
 use lib.Dec.{eqb}
 use borrow.Author.Tests.{eq-eqb}
 use Rattle.value.specs.Value.{same_value, rank_of, value_of}
-use Rattle.symbol.specs.declared.Level.{Level}
 use Rattle.symbol.specs.declared.Level.TheVariants.{Zero, One, Unknown, Binary, Any}
 use Rattle.symbol.specs.declared.Symbol.{Symbol}
 use Rattle.symbol.specs.declared.Symbol.TheVariants.{Held, Edge, Rise, Fall, Positive, Negative, Every}
-use Rattle.symbol.specs.Match.{match_level, match_edge, match_held, match_change, is_edge, offered, meet, possible}
+use Rattle.symbol.specs.Match.{match_level, match_held, match_change, is_edge, offered, meet, possible}
 use Rattle.symbol.specs.Masks.{mask_from, mask_of, offers}
 use Rattle.symbol.proofs.Masks.{mask_and, some_mask}
 

@@ -4,22 +4,20 @@ use mathlib.Core.Path.{◌≡◌, refl, sym, ap, ◌∙◌}
 use mathlib.Core.Bool.{Bool, true, false, cond}
 use mathlib.Core.List.{List}
 use native.Mathlib.Omega.{arith}
-use lib.Dec.{eqb, ltb}
+use lib.Dec.{eqb}
 use lib.ListN.{length, get_or, take, drop, length-take, length-drop, get_or-eq_default}
 use lib.Seq.{ext_get_or, get_or-take, get_or-drop}
-use borrow.Author.Tests.{lt-ltb, le-ltb, eq-eqb, ne_eqb, eqb-true}
-use Rattle.base.specs.Search.{every}
+use borrow.Author.Tests.{lt-ltb, le-ltb, eq-eqb, eqb-true}
 use Rattle.base.proofs.Search.{every_at, every_of}
 use Rattle.base.specs.Listed.{listed}
-use Rattle.base.proofs.Listed.{listed-length, listed_at, listed-past, listed-is}
+use Rattle.base.proofs.Listed.{listed_length, listed_at, listed_past, listed_is}
 use Rattle.value.specs.declared.Ternary.{Ternary}
 use Rattle.value.specs.declared.Ternary.TheVariants.{V0, V1, Vx}
 use Rattle.value.specs.Value.{byte_of, read_byte}
-use Rattle.symbol.specs.declared.Symbol.{Symbol}
-use Rattle.stored.specs.Stored.{level_byte, level_of, symbol_byte, second_byte, symbol_of, output_byte, output_of}
+use Rattle.stored.specs.Stored.{level_byte, level_of, symbol_byte, output_byte, output_of}
 use Rattle.stored.proofs.Stores.{level_of_byte, output_of_byte, symbol_of_bytes}
 use Rattle.table.specs.Places.{name_at, kind_at, inputs_at, start_at, count_at, rows_at, state_at, output_at, row_size, area_size, row_place}
-use Rattle.table.specs.Table.{Row, Table, Bounded, Shaped, row_at, symbol_at, no_row, any_symbol}
+use Rattle.table.specs.Table.{Table, Bounded, Shaped, row_at, symbol_at, no_row, any_symbol}
 use Rattle.table.specs.Area.{kind_byte, symbol_part, row_byte, rows_byte, area_byte, encode, symbol_in, row_in, or_x, decode, canonical}
 
 -- ---- what is read out of any area
@@ -29,19 +27,19 @@ decode_inputs a = refl
 
 pub decode_count : (a : List ℕ) → length (decode a).rows ≡ get_or a count_at 0
 unfolding decode
-decode_count a = listed-length (row_in a) (get_or a count_at 0)
+decode_count a = listed_length (row_in a) (get_or a count_at 0)
 
 pub decode_row : (a : List ℕ) (i : ℕ) → i < length (decode a).rows → row_at (decode a) i ≡ row_in a i
 unfolding decode
-decode_row a i h = listed_at (row_in a) (get_or a count_at 0) i no_row (omega (arith, listed-length (row_in a) (get_or a count_at 0)))
+decode_row a i h = listed_at (row_in a) (get_or a count_at 0) i no_row (omega (arith, listed_length (row_in a) (get_or a count_at 0)))
 
 pub decode_no_row : (a : List ℕ) (i : ℕ) → length (decode a).rows ≤ i → row_at (decode a) i ≡ no_row
 unfolding decode
-decode_no_row a i h = listed-past (row_in a) (get_or a count_at 0) i no_row (omega (arith, listed-length (row_in a) (get_or a count_at 0)))
+decode_no_row a i h = listed_past (row_in a) (get_or a count_at 0) i no_row (omega (arith, listed_length (row_in a) (get_or a count_at 0)))
 
 pub decode_columns : (a : List ℕ) (i : ℕ) → i < length (decode a).rows → length (row_at (decode a) i).symbols ≡ (decode a).inputs
 unfolding decode row_in
-decode_columns a i h = rw (decode_row a i h) (listed-length (symbol_in a i) (get_or a inputs_at 0))
+decode_columns a i h = rw (decode_row a i h) (listed_length (symbol_in a i) (get_or a inputs_at 0))
 
 pub decode_symbol : (a : List ℕ) (i k : ℕ) → i < length (decode a).rows → k < (decode a).inputs → symbol_at (row_at (decode a) i) k ≡ symbol_in a i k
 unfolding decode row_in
@@ -76,7 +74,7 @@ decode_behind a i k h g = rw (le-ltb k (2 * length (row_at (decode a) i).symbols
 -- ---- what is read out of an encoding
 pub encode_length : (t : Table) → length (encode t) ≡ area_size
 unfolding encode
-encode_length t = listed-length (area_byte t) area_size
+encode_length t = listed_length (area_byte t) area_size
 
 pub encode_at : (t : Table) (p : ℕ) → p < area_size → get_or (encode t) p 0 ≡ area_byte t p
 unfolding encode
@@ -111,17 +109,17 @@ module _ (t : Table) (s : Shaped t) where
   unfolding area_byte
   count_of = encode_at t count_at (omega arith)
 
-  pub inputs-of : get_or (encode t) inputs_at 0 ≡ t.inputs
+  pub inputs_of : get_or (encode t) inputs_at 0 ≡ t.inputs
   unfolding area_byte
-  inputs-of = encode_at t inputs_at (omega arith)
+  inputs_of = encode_at t inputs_at (omega arith)
 
-  length-of : get_or (encode t) 0 0 ≡ length t.name
+  length_of : get_or (encode t) 0 0 ≡ length t.name
   unfolding area_byte
-  length-of = encode_at t 0 (omega arith)
+  length_of = encode_at t 0 (omega arith)
 
-  kind-of : get_or (encode t) kind_at 0 ≡ kind_byte t.sequential
+  kind_of_lem : get_or (encode t) kind_at 0 ≡ kind_byte t.sequential
   unfolding area_byte
-  kind-of = encode_at t kind_at (omega arith)
+  kind_of_lem = encode_at t kind_at (omega arith)
 
   start_of : get_or (encode t) start_at 0 ≡ byte_of t.start
   unfolding area_byte
@@ -143,9 +141,9 @@ module _ (t : Table) (s : Shaped t) where
 
   module _ (i : ℕ) (h : i < length t.rows) where
     -- the two bytes of column k
-    symbol-part : (k m : ℕ) → k < t.inputs → m < 2 → get_or (encode t) (row_place i (2 * k + m)) 0 ≡ symbol_part (symbol_at (row_at t i) k) m
+    symbol_part_lem : (k m : ℕ) → k < t.inputs → m < 2 → get_or (encode t) (row_place i (2 * k + m)) 0 ≡ symbol_part (symbol_at (row_at t i) k) m
     unfolding row_byte
-    symbol-part k m g l =
+    symbol_part_lem k m g l =
         let b = s.bounded.inputs in
         let d : (2 * k + m) / 2 ≡ k = omega arith in
         let r : (2 * k + m) % 2 ≡ m = omega arith in
@@ -154,40 +152,40 @@ module _ (t : Table) (s : Shaped t) where
 
     first_part : (k : ℕ) → k < t.inputs → get_or (encode t) (row_place i (2 * k)) 0 ≡ symbol_byte (symbol_at (row_at t i) k)
     unfolding symbol_part
-    first_part k g = let e : 2 * k + 0 ≡ 2 * k = omega arith in rw e at (symbol-part k 0 g (omega arith))
+    first_part k g = let e : 2 * k + 0 ≡ 2 * k = omega arith in rw e at (symbol_part_lem k 0 g (omega arith))
 
-    symbols-of : listed (symbol_in (encode t) i) t.inputs ≡ (row_at t i).symbols
+    symbols_of : listed (symbol_in (encode t) i) t.inputs ≡ (row_at t i).symbols
     unfolding symbol_in symbol_part
-    symbols-of =
-        listed-is (symbol_in (encode t) i) t.inputs (row_at t i).symbols any_symbol (s.columns i h)
-        (λ k g. rw (first_part k g, symbol-part k 1 g (omega arith)) (symbol_of_bytes (symbol_at (row_at t i) k)))
+    symbols_of =
+        listed_is (symbol_in (encode t) i) t.inputs (row_at t i).symbols any_symbol (s.columns i h)
+        (λ k g. rw (first_part k g, symbol_part_lem k 1 g (omega arith)) (symbol_of_bytes (symbol_at (row_at t i) k)))
 
-    state-of : level_of (get_or (encode t) (row_place i state_at) 0) ≡ (row_at t i).state
+    state_of_lem : level_of (get_or (encode t) (row_place i state_at) 0) ≡ (row_at t i).state
     unfolding row_byte
-    state-of =
+    state_of_lem =
         let l = s.bounded.inputs in
         rw (row_byte_lem t i state_at s.bounded h (omega arith), le-ltb state_at (2 * length (row_at t i).symbols) (omega (arith, s.columns i h))) (level_of_byte (row_at t i).state)
 
-    output-of : output_of (get_or (encode t) (row_place i output_at) 0) ≡ (row_at t i).output
+    output_of_lem : output_of (get_or (encode t) (row_place i output_at) 0) ≡ (row_at t i).output
     unfolding row_byte
-    output-of =
+    output_of_lem =
         let l = s.bounded.inputs in
         rw (row_byte_lem t i output_at s.bounded h (omega arith), le-ltb output_at (2 * length (row_at t i).symbols) (omega (arith, s.columns i h))) (output_of_byte (row_at t i).output)
 
     row_of : row_in (encode t) i ≡ row_at t i
     unfolding row_in
-    row_of = rw (inputs-of, symbols-of, state-of, output-of)
+    row_of = rw (inputs_of, symbols_of, state_of_lem, output_of_lem)
 
   rows_of : listed (row_in (encode t)) (length t.rows) ≡ t.rows
-  rows_of = listed-is (row_in (encode t)) (length t.rows) t.rows no_row refl row_of
+  rows_of = listed_is (row_in (encode t)) (length t.rows) t.rows no_row refl row_of
 
   -- nothing is lost
-  pub decode-encode : decode (encode t) ≡ t
+  pub decode_encode : decode (encode t) ≡ t
   unfolding decode
-  decode-encode = rw (length-of, name_of, kind-of, kind_of_byte t.sequential, inputs-of, start_of, start_of_byte t.start, count_of, rows_of)
+  decode_encode = rw (length_of, name_of, kind_of_lem, kind_of_byte t.sequential, inputs_of, start_of, start_of_byte t.start, count_of, rows_of)
 
 pub encode_injective : (t u : Table) → Shaped t → Shaped u → encode t ≡ encode u → t ≡ u
-encode_injective t u s r e = sym (decode-encode t s) ∙ ap decode e ∙ decode-encode u r
+encode_injective t u s r e = sym (decode_encode t s) ∙ ap decode e ∙ decode_encode u r
 
 -- an area that passes is the encoding of its table
 pub encode_decode : (a : List ℕ) → length a ≡ area_size → canonical a ≡ true → a ≡ encode (decode a)
@@ -201,4 +199,4 @@ pub encoding_passes : (t : Table) → Shaped t → canonical (encode t) ≡ true
 unfolding canonical
 encoding_passes t s =
     every_of (λ (p : ℕ). eqb (get_or (encode t) p 0) (area_byte (decode (encode t)) p)) area_size
-    (λ p h. eq-eqb (get_or (encode t) p 0) (area_byte (decode (encode t)) p) (rw (decode-encode t s) (encode_at t p h)))
+    (λ p h. eq-eqb (get_or (encode t) p 0) (area_byte (decode (encode t)) p) (rw (decode_encode t s) (encode_at t p h)))

@@ -1,5 +1,5 @@
 -- How a table lies in an area: the one encoding.
-use Rattle.std.specs.Prelude.{ℕ, ◌+◌, ◌-◌, ◌*◌, ◌/◌, ◌%◌, ◌≡◌, Bool, true, false, cond, List, eqb, ltb, length, get_or, take, drop}
+use Rattle.std.specs.Prelude.{ℕ, ◌+◌, ◌-◌, ◌*◌, ◌/◌, ◌%◌, Bool, true, false, cond, List, eqb, ltb, length, get_or, take, drop}
 use Prim.Native.Char.{code}
 use Rattle.base.specs.Search.{every}
 use Rattle.base.specs.Listed.{listed}
@@ -11,7 +11,7 @@ use Rattle.value.specs.Value.{byte_of, read_byte}
 use Rattle.symbol.specs.declared.Symbol.{Symbol}
 use Rattle.stored.specs.Stored.{level_byte, level_of, symbol_byte, second_byte, symbol_of, output_byte, output_of}
 use Rattle.table.specs.Places.{name_at, kind_at, inputs_at, start_at, count_at, rows_at, state_at, output_at, row_size, area_size, row_place}
-use Rattle.table.specs.Table.{Row, Table, Bounded, row_at, symbol_at}
+use Rattle.table.specs.Table.{Row, Table, row_at, symbol_at}
 
 unfoldable pub kind_byte : Bool → ℕ
 kind_byte true = code "s"

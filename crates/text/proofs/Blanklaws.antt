@@ -1,14 +1,14 @@
 -- Blanks and comments at a place of a text. Assumes nothing.
 use mathlib.Core.Path.{◌≡◌, refl, sym, subst, ◌∙◌}
-use mathlib.Core.Bool.{Bool, true, false, not, cond, ◌&&◌, and-false, false≢true, and-eq-true_iff}
+use mathlib.Core.Bool.{Bool, true, false, cond, ◌&&◌, false≢true, and-eq-true_iff}
 use mathlib.Core.Option.{Option, none, some}
 use mathlib.Core.List.{List, [], ◌∷◌}
 use Prim.Native.Nat.{ℕ, zero, suc, pred, ◌+◌, ◌≤◌, ◌<◌}
 use native.Mathlib.Omega.{arith}
 use native.Mathlib.Numerals.{add-one}
 use native.Mathlib.Nat.{zero-add, add-zero}
-use lib.Dec.{T, eqb, eqb→eq, eqb-suc-zero}
-use lib.ListN.{length, get_or, take, drop, length-drop, drop_of_length-le}
+use lib.Dec.{eqb, eqb-suc-zero}
+use lib.ListN.{length, get_or, drop, length-drop, drop_of_length-le}
 use borrow.Author.Tests.{eqb-true, ne_eqb}
 use lib.Seq.{drop-cons, drop-drop}
 use Rattle.text.specs.Bytes.{is_blank, is}
@@ -17,8 +17,8 @@ use Rattle.text.specs.Reader.{Result, got, refused, pass, skip}
 use mathlib.Core.Logic.{◌≢◌}
 
 module _ (t : List ℕ) (i : ℕ) where
-  pub one-cons : (c : ℕ) → i < length t → one c (drop i t) ≡ eqb (get_or t i 0) c
-  one-cons c h = rw (drop-cons t i 0)
+  pub one_cons : (c : ℕ) → i < length t → one c (drop i t) ≡ eqb (get_or t i 0) c
+  one_cons c h = rw (drop-cons t i 0)
 
   pub two_at : (c d : ℕ) → two c d (drop i t) ≡ (one c (drop i t) && one d (drop (i + 1) t))
   two_at c d = rw (← drop-drop 1 i t) (go (drop i t))
@@ -27,17 +27,17 @@ module _ (t : List ℕ) (i : ℕ) where
       go [] = refl
       go (b ∷ l) = refl
 
-  pub line-cons : i < length t → to_line (drop i t) ≡ cond (eqb (get_or t i 0) 10) 0 (suc (to_line (drop (i + 1) t)))
-  line-cons h = rw (add-one, drop-cons t i 0)
+  pub line_cons : i < length t → to_line (drop i t) ≡ cond (eqb (get_or t i 0) 10) 0 (suc (to_line (drop (i + 1) t)))
+  line_cons h = rw (add-one, drop-cons t i 0)
 
-  pub close-cons : i < length t → to_close (drop i t) ≡ cond (two 42 47 (drop i t)) (some 2) (more (to_close (drop (i + 1) t)))
-  close-cons h = rw (add-one, drop-cons t i 0)
+  pub close_cons : i < length t → to_close (drop i t) ≡ cond (two 42 47 (drop i t)) (some 2) (more (to_close (drop (i + 1) t)))
+  close_cons h = rw (add-one, drop-cons t i 0)
 
-  pub line-nil : length t ≤ i → to_line (drop i t) ≡ 0
-  line-nil h = rw (drop_of_length-le t h)
+  pub line_nil : length t ≤ i → to_line (drop i t) ≡ 0
+  line_nil h = rw (drop_of_length-le t h)
 
-  pub close-nil : length t ≤ i → to_close (drop i t) ≡ none
-  close-nil h = rw (drop_of_length-le t h)
+  pub close_nil : length t ≤ i → to_close (drop i t) ≡ none
+  close_nil h = rw (drop_of_length-le t h)
 
 -- so many bytes more
 abbrev pub adds : ℕ → Option ℕ → Option ℕ
@@ -112,8 +112,8 @@ list_on b l i m f =
     rw (f, eqb-suc-zero m, e) (pass_over m (suc i) l (omega (arith, gap_le (b ∷ l))))
 
 module _ (t : List ℕ) (i : ℕ) (h : i < length t) where
-  pub gap-cons : gap (drop i t) ≡ cond (is_blank (get_or t i 0)) 1 (cond (two 47 47 (drop i t)) (2 + to_line (drop (i + 2) t)) (cond (two 47 42 (drop i t)) (closed (to_close (drop (i + 2) t))) 0))
-  gap-cons = let e : i + 2 ≡ suc i + 1 = omega arith in rw (e, ← drop-drop 1 (suc i) t, drop-cons t i 0)
+  pub gap_cons : gap (drop i t) ≡ cond (is_blank (get_or t i 0)) 1 (cond (two 47 47 (drop i t)) (2 + to_line (drop (i + 2) t)) (cond (two 47 42 (drop i t)) (closed (to_close (drop (i + 2) t))) 0))
+  gap_cons = let e : i + 2 ≡ suc i + 1 = omega arith in rw (e, ← drop-drop 1 (suc i) t, drop-cons t i 0)
 
   pub skip_stop : gap (drop i t) ≡ 0 → skip i (drop i t) ≡ got tt i (drop i t)
   skip_stop e = rw (drop-cons t i 0) (go (rw (drop-cons t i 0) at e))
@@ -121,55 +121,55 @@ module _ (t : List ℕ) (i : ℕ) (h : i < length t) where
       go : gap (get_or t i 0 ∷ drop (suc i) t) ≡ 0 → skip i (get_or t i 0 ∷ drop (suc i) t) ≡ got tt i (get_or t i 0 ∷ drop (suc i) t)
       go f = rw f
 
-  pub skip-on : (g : ℕ) → gap (drop i t) ≡ g → g ≢ 0 → skip i (drop i t) ≡ skip (i + g) (drop (i + g) t)
-  skip-on zero e ne = absurd (ne refl)
-  skip-on (suc m) e ne =
+  pub skip_on : (g : ℕ) → gap (drop i t) ≡ g → g ≢ 0 → skip i (drop i t) ≡ skip (i + g) (drop (i + g) t)
+  skip_on zero e ne = absurd (ne refl)
+  skip_on (suc m) e ne =
       let f : i + suc m ≡ suc i + m = omega arith in
       rw (drop-cons t i 0, list_on (get_or t i 0) (drop (suc i) t) i m (rw (drop-cons t i 0) at e), f, drop-drop)
 
 -- ---- past the end, faults
 
 module _ (t : List ℕ) (i : ℕ) where
-  pub gap-nil : length t ≤ i → gap (drop i t) ≡ 0
-  gap-nil h = rw (drop_of_length-le t h)
+  pub gap_nil : length t ≤ i → gap (drop i t) ≡ 0
+  gap_nil h = rw (drop_of_length-le t h)
 
-  pub skip-nil : length t ≤ i → skip i (drop i t) ≡ got tt i (drop i t)
-  skip-nil h = rw (drop_of_length-le t h)
+  pub skip_nil : length t ≤ i → skip i (drop i t) ≡ got tt i (drop i t)
+  skip_nil h = rw (drop_of_length-le t h)
 
-  pub endless-at : endless (drop i t) ≡ (two 47 42 (drop i t) && is_none (to_close (drop (i + 2) t)))
-  endless-at = rw (drop-drop)
+  pub endless_at : endless (drop i t) ≡ (two 47 42 (drop i t) && is_none (to_close (drop (i + 2) t)))
+  endless_at = rw (drop-drop)
 
-  pub endless-yes : (o : Option ℕ) → two 47 42 (drop i t) ≡ true → o ≡ to_close (drop (i + 2) t) → endless (drop i t) ≡ is_none o
-  endless-yes o e f = endless-at ∙ rw (e, f)
+  pub endless_yes : (o : Option ℕ) → two 47 42 (drop i t) ≡ true → o ≡ to_close (drop (i + 2) t) → endless (drop i t) ≡ is_none o
+  endless_yes o e f = endless_at ∙ rw (e, f)
 
-  pub endless-no : two 47 42 (drop i t) ≡ false → endless (drop i t) ≡ false
-  endless-no e = endless-at ∙ rw e
+  pub endless_no : two 47 42 (drop i t) ≡ false → endless (drop i t) ≡ false
+  endless_no e = endless_at ∙ rw e
 
-  pub one-nil : (c : ℕ) → length t ≤ i → one c (drop i t) ≡ false
-  one-nil c h = rw (drop_of_length-le t h)
+  pub one_nil : (c : ℕ) → length t ≤ i → one c (drop i t) ≡ false
+  one_nil c h = rw (drop_of_length-le t h)
 
 pub close_some : (s : List ℕ) (m : ℕ) → to_close s ≡ some m → m ≤ length s
 close_some s m e = rw e at (close_le s)
 
 module _ (t : List ℕ) (i : ℕ) where
   -- where a byte stands there is a place behind it
-  pub one-room : (c : ℕ) (b : Bool) → b ≡ one c (drop i t) → b ≡ true → i < length t
-  one-room c b e h = omega (arith, one_long c (drop i t) (sym e ∙ h), length-drop i t)
+  pub one_room : (c : ℕ) (b : Bool) → b ≡ one c (drop i t) → b ≡ true → i < length t
+  one_room c b e h = omega (arith, one_long c (drop i t) (sym e ∙ h), length-drop i t)
 
 module _ (t : List ℕ) (i : ℕ) where
   -- a byte that is a blank is passed
-  pub blank-on : (c : ℕ) → is_blank c ≡ true → one c (drop i t) ≡ true → skip i (drop i t) ≡ skip (i + 1) (drop (i + 1) t)
-  blank-on c e o =
+  pub blank_on : (c : ℕ) → is_blank c ≡ true → one c (drop i t) ≡ true → skip i (drop i t) ≡ skip (i + 1) (drop (i + 1) t)
+  blank_on c e o =
       let h : i < length t = omega (arith, one_long c (drop i t) o, length-drop i t) in
-      let b : get_or t i 0 ≡ c = eqb-true _ _ (sym (one-cons t i c h) ∙ o) in
-      skip-on t i h 1 (gap-cons t i h ∙ rw (b, e)) (λ z. omega arith)
+      let b : get_or t i 0 ≡ c = eqb-true _ _ (sym (one_cons t i c h) ∙ o) in
+      skip_on t i h 1 (gap_cons t i h ∙ rw (b, e)) (λ z. omega arith)
 
   -- above the space only `/` begins a gap
-  pub plain-stop : i < length t → 32 < get_or t i 0 → (get_or t i 0 ≡ 47 → ⊥) → skip i (drop i t) ≡ got tt i (drop i t)
-  plain-stop h g n =
-      let no : one 47 (drop i t) ≡ false = one-cons t i 47 h ∙ ne_eqb _ _ n in
+  pub plain_stop : i < length t → 32 < get_or t i 0 → (get_or t i 0 ≡ 47 → ⊥) → skip i (drop i t) ≡ got tt i (drop i t)
+  plain_stop h g n =
+      let no : one 47 (drop i t) ≡ false = one_cons t i 47 h ∙ ne_eqb _ _ n in
       skip_stop t i h
-      (gap-cons t i h
+      (gap_cons t i h
       ∙ rw (ne_eqb (get_or t i 0) 32 (λ e. omega arith), ne_eqb (get_or t i 0) 9 (λ e. omega arith), ne_eqb (get_or t i 0) 13 (λ e. omega arith), ne_eqb (get_or t i 0) 10 (λ e. omega arith), ne_eqb (get_or t i 0) 12 (λ e. omega arith), two_at t i 47 47, two_at t i 47 42, no))
 
 -- behind blanks there are none to skip

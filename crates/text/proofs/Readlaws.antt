@@ -14,8 +14,8 @@ use Rattle.text.specs.Blanks.{begins, one}
 use Rattle.text.specs.Reader.{got, bind, give, byte, said, ahead, fault}
 
 module _ (t : List ℕ) (i : ℕ) where
-  pub mark-at : (c : ℕ) → byte (λ b. eqb b c) i (drop i t) ≡ cond (one c (drop i t)) (got c (i + 1) (drop (i + 1) t)) (fault i (drop i t))
-  mark-at c = let e : i + 1 ≡ suc i = omega arith in rw (← drop-drop 1 i t, e) (go (drop i t))
+  pub mark_at : (c : ℕ) → byte (λ b. eqb b c) i (drop i t) ≡ cond (one c (drop i t)) (got c (i + 1) (drop (i + 1) t)) (fault i (drop i t))
+  mark_at c = let e : i + 1 ≡ suc i = omega arith in rw (← drop-drop 1 i t, e) (go (drop i t))
     where
       go : (s : List ℕ) → byte (λ b. eqb b c) i s ≡ cond (one c s) (got c (suc i) (drop 1 s)) (fault i s)
       go [] = refl
@@ -25,10 +25,10 @@ module _ (t : List ℕ) (i : ℕ) where
           pick true e = rw (e tt)
           pick false e = refl
 
-  pub either-at : (c d : ℕ)
+  pub either_at : (c d : ℕ)
       → bind (byte (λ b. eqb b c || eqb b d) i (drop i t)) (λ b. give (eqb b c))
       ≡ cond (one c (drop i t)) (got true (i + 1) (drop (i + 1) t)) (cond (one d (drop i t)) (got false (i + 1) (drop (i + 1) t)) (fault i (drop i t)))
-  either-at c d = let e : i + 1 ≡ suc i = omega arith in rw (← drop-drop 1 i t, e) (go (drop i t))
+  either_at c d = let e : i + 1 ≡ suc i = omega arith in rw (← drop-drop 1 i t, e) (go (drop i t))
     where
       go : (s : List ℕ)
           → bind (byte (λ b. eqb b c || eqb b d) i s) (λ b. give (eqb b c))
@@ -62,32 +62,32 @@ begins_or p q [] = refl
 begins_or p q (b ∷ l) = refl
 
 module _ (t : List ℕ) (i : ℕ) where
-  pub begins-cons : (p : ℕ → Bool) → i < length t → begins p (drop i t) ≡ p (get_or t i 0)
-  begins-cons p h = rw (drop-cons t i 0)
+  pub begins_cons : (p : ℕ → Bool) → i < length t → begins p (drop i t) ≡ p (get_or t i 0)
+  begins_cons p h = rw (drop-cons t i 0)
 
-  pub begins-nil : (p : ℕ → Bool) → length t ≤ i → begins p (drop i t) ≡ false
-  begins-nil p h = rw (drop_of_length-le t h)
+  pub begins_nil : (p : ℕ → Bool) → length t ≤ i → begins p (drop i t) ≡ false
+  begins_nil p h = rw (drop_of_length-le t h)
 
   module _ {A : Type 0} (f : ℕ → Option A) where
-    pub said-some : (a : A) → i < length t → some a ≡ f (get_or t i 0) → said f i (drop i t) ≡ got a (i + 1) (drop (i + 1) t)
-    said-some a h e = rw (add-one, drop-cons t i 0, ← e)
+    pub said_some : (a : A) → i < length t → some a ≡ f (get_or t i 0) → said f i (drop i t) ≡ got a (i + 1) (drop (i + 1) t)
+    said_some a h e = rw (add-one, drop-cons t i 0, ← e)
 
-    pub said-none : i < length t → none ≡ f (get_or t i 0) → said f i (drop i t) ≡ fault i (drop i t)
-    said-none h e = rw (drop-cons t i 0, ← e)
+    pub said_none : i < length t → none ≡ f (get_or t i 0) → said f i (drop i t) ≡ fault i (drop i t)
+    said_none h e = rw (drop-cons t i 0, ← e)
 
-    pub said-nil : length t ≤ i → said f i (drop i t) ≡ fault i (drop i t)
-    said-nil h = rw (drop_of_length-le t h)
+    pub said_nil : length t ≤ i → said f i (drop i t) ≡ fault i (drop i t)
+    said_nil h = rw (drop_of_length-le t h)
 
 pub ahead_none : (k : ℕ) (s : List ℕ) → ahead (λ b. false) k s ≡ got false k s
 ahead_none k [] = refl
 ahead_none k (b ∷ l) = refl
 
 module _ (t : List ℕ) (i : ℕ) (p : ℕ → Bool) where
-  pub byte-cons : i < length t → byte p i (drop i t) ≡ cond (p (get_or t i 0)) (got (get_or t i 0) (i + 1) (drop (i + 1) t)) (fault i (drop i t))
-  byte-cons h = rw (add-one, drop-cons t i 0)
+  pub byte_cons : i < length t → byte p i (drop i t) ≡ cond (p (get_or t i 0)) (got (get_or t i 0) (i + 1) (drop (i + 1) t)) (fault i (drop i t))
+  byte_cons h = rw (add-one, drop-cons t i 0)
 
-  pub byte-nil : length t ≤ i → byte p i (drop i t) ≡ fault i (drop i t)
-  byte-nil h = rw (drop_of_length-le t h)
+  pub byte_nil : length t ≤ i → byte p i (drop i t) ≡ fault i (drop i t)
+  byte_nil h = rw (drop_of_length-le t h)
 
 -- one of two bytes
 pub byte_two : (t : List ℕ) (i c d : ℕ)

@@ -22,11 +22,11 @@ use Rattle.text.specs.declared.Step.TheVariants.{At, Refused}
 use Rattle.text.specs.Words.{same, member, keywords, all_in_name, is_name}
 
 module _ (a b : List ℕ) (i : ℕ) where
-  pub same-cons : i < length a → i < length b → same (drop i a) (drop i b) ≡ (eqb (get_or a i 0) (get_or b i 0) && same (drop (i + 1) a) (drop (i + 1) b))
-  same-cons h k = rw (add-one, drop-cons a i 0, drop-cons b i 0)
+  pub same_cons : i < length a → i < length b → same (drop i a) (drop i b) ≡ (eqb (get_or a i 0) (get_or b i 0) && same (drop (i + 1) a) (drop (i + 1) b))
+  same_cons h k = rw (add-one, drop-cons a i 0, drop-cons b i 0)
 
-  pub same-long : i < length a → length b ≤ i → same (drop i a) (drop i b) ≡ false
-  same-long h k = rw (drop-cons a i 0, drop_of_length-le b k)
+  pub same_long : i < length a → length b ≤ i → same (drop i a) (drop i b) ≡ false
+  same_long h k = rw (drop-cons a i 0, drop_of_length-le b k)
 
   pub same_end : length a ≤ i → same (drop i a) (drop i b) ≡ leb (length b) i
   same_end h =
@@ -69,11 +69,11 @@ module _ (t : List ℕ) (a e : ℕ) where
   pub part_none : e ≤ a → part t a e ≡ []
   part_none h = let n : e - a ≡ 0 = omega arith in rw n
 
-  pub part-past : length t ≤ a → part t a e ≡ []
-  part-past h = rw (drop_of_length-le t h, take-nil)
+  pub part_past : length t ≤ a → part t a e ≡ []
+  part_past h = rw (drop_of_length-le t h, take-nil)
 
-  pub part-long : length t ≤ e → part t a e ≡ part t a (length t)
-  part-long h = rw (take_all (e - a) (drop a t) (omega (arith, length-drop a t)), take_all (length t - a) (drop a t) (omega (arith, length-drop a t)))
+  pub part_long : length t ≤ e → part t a e ≡ part t a (length t)
+  part_long h = rw (take_all (e - a) (drop a t) (omega (arith, length-drop a t)), take_all (length t - a) (drop a t) (omega (arith, length-drop a t)))
 
 -- how long the longest run of name bytes is
 abbrev pub run_length : List ℕ → ℕ
@@ -96,11 +96,11 @@ run_end t i r e =
     rw (h, run_is i (drop i t), drop-drop, ← e)
 
 module _ (t : List ℕ) (i : ℕ) where
-  pub run-cons : i < length t → run_length (drop i t) ≡ cond (in_name (get_or t i 0)) (suc (run_length (drop (i + 1) t))) 0
-  run-cons h = rw (add-one, drop-cons t i 0)
+  pub run_cons : i < length t → run_length (drop i t) ≡ cond (in_name (get_or t i 0)) (suc (run_length (drop (i + 1) t))) 0
+  run_cons h = rw (add-one, drop-cons t i 0)
 
-  pub run-nil : length t ≤ i → run_length (drop i t) ≡ 0
-  run-nil h = rw (drop_of_length-le t h)
+  pub run_nil : length t ≤ i → run_length (drop i t) ≡ 0
+  run_nil h = rw (drop_of_length-le t h)
 
 -- ---- what a word's place tells
 
@@ -155,8 +155,8 @@ module _ (t : List ℕ) (i e : ℕ) (r : run i (drop i t) ≡ got (part t i e) e
   pub word_in : i < e → i < length t
   word_in h = omega (arith, ends, run_fits (drop i t), length-drop i t)
 
-  pub word-all : i ≤ length t → all_in_name (drop i t) ≡ leb (length t) e
-  word-all h =
+  pub word_all : i ≤ length t → all_in_name (drop i t) ≡ leb (length t) e
+  word_all h =
       all_run (drop i t)
       ∙ ⊎_elim
       (λ (l : e < length t). rw (lt-leb _ _ l, lt-leb (length (drop i t)) (run_length (drop i t)) (omega (arith, ends, length-drop i t))))
@@ -166,13 +166,13 @@ module _ (t : List ℕ) (i e : ℕ) (r : run i (drop i t) ≡ got (part t i e) e
   pub word_none : e ≤ i → is_name (part t i e) ≡ false
   word_none h = rw (part_none t i e h) (name_nil [] refl)
 
-  pub word-name : i < e → is_name (part t i e) ≡ (starts (get_or t i 0) && not (member (part t i e) keywords))
-  word-name h =
+  pub word_name : i < e → is_name (part t i e) ≡ (starts (get_or t i 0) && not (member (part t i e) keywords))
+  word_name h =
       let n : e - i ≡ run_length (drop i t) = omega (arith, ends) in
-      rw (n, ← first-at) (name_taken (drop i t) (omega (arith, ends)))
+      rw (n, ← first_at_lem) (name_taken (drop i t) (omega (arith, ends)))
     where
-      first-at : get_or (drop i t) 0 0 ≡ get_or t i 0
-      first-at = rw (drop-cons t i 0 (word_in h))
+      first_at_lem : get_or (drop i t) 0 0 ≡ get_or t i 0
+      first_at_lem = rw (drop-cons t i 0 (word_in h))
 
 -- a name that is read, case by case
 module _ (t : List ℕ) (at i : ℕ) (blank : skip at (drop at t) ≡ got tt i (drop i t)) (e : ℕ) (r : run i (drop i t) ≡ got (part t i e) e (drop e t)) where
@@ -186,25 +186,25 @@ module _ (t : List ℕ) (at i : ℕ) (blank : skip at (drop at t) ≡ got tt i (
   unfolding name word ◌>>=◌
   no_name b z q = rw (blank, r, b, q)
 
-  pub name-none : e ≤ i → (z : Step) → Faulty z → Means z
-  name-none h = no_name (word_none t i e r h)
+  pub name_none : e ≤ i → (z : Step) → Faulty z → Means z
+  name_none h = no_name (word_none t i e r h)
 
   module _ (some : i < e) (a : Bool) (first : a ≡ starts (get_or t i 0)) where
-    pub name-unlike : a ≡ false → (z : Step) → Faulty z → Means z
-    name-unlike h = no_name (word-name t i e r some ∙ rw (← first, h))
+    pub name_unlike : a ≡ false → (z : Step) → Faulty z → Means z
+    name_unlike h = no_name (word_name t i e r some ∙ rw (← first, h))
 
     module _ (like : a ≡ true) (w : List ℕ) (cut : w ≡ part t i e) (b : Bool) (known : b ≡ member w keywords) where
       named_by : is_name (part t i e) ≡ not b
-      named_by = word-name t i e r some ∙ rw (← first, like, ← cut, known)
+      named_by = word_name t i e r some ∙ rw (← first, like, ← cut, known)
 
-      pub name-keyword : b ≡ true → (z : Step) → Faulty z → Means z
-      name-keyword h = no_name (named_by ∙ ap not h)
+      pub name_keyword : b ≡ true → (z : Step) → Faulty z → Means z
+      name_keyword h = no_name (named_by ∙ ap not h)
 
       module _ (free : b ≡ false) where
-        pub name-there : length w ≤ name_limit → Means (At i e)
+        pub name_there : length w ≤ name_limit → Means (At i e)
         unfolding name word check ◌>>=◌
-        name-there h = rw (blank, r, named_by, free, le-leb (length (part t i e)) name_limit (rw cut at h))
+        name_there h = rw (blank, r, named_by, free, le-leb (length (part t i e)) name_limit (rw cut at h))
 
-        pub name-long : name_limit < length w → Means (Refused 4 i)
+        pub name_long : name_limit < length w → Means (Refused 4 i)
         unfolding name word check ◌>>=◌
-        name-long h = rw (blank, r, named_by, free, lt-leb (length (part t i e)) name_limit (rw cut at h))
+        name_long h = rw (blank, r, named_by, free, lt-leb (length (part t i e)) name_limit (rw cut at h))

@@ -3,7 +3,7 @@ use Rattle.std.specs.Prelude.{List, [], ◌∷◌, Bool, true, false, cond, ◌|
 use Rattle.std.proofs.Math.Option.{Option, none, some}
 use Prim.Native.Char.{Char, code}
 use Rattle.base.specs.Limits.{name_limit}
-use Rattle.text.specs.Bytes.{is, in_name}
+use Rattle.text.specs.Bytes.{in_name}
 use Rattle.text.specs.Words.{same, is_name, name_fits}
 use Rattle.text.specs.Blanks.{gap, endless}
 

@@ -1,14 +1,12 @@
 -- The code's findings and document 01's: those that fit the book's layout are the same, one to one. Assumes nothing.
 use mathlib.Core.Path.{◌≡◌, refl, sym, ap, ap₂, ◌∙◌}
-use mathlib.Core.Logic.{◌≢◌, ◌⊎◌, inl, inr, ⊎_elim}
-use mathlib.Core.List.{List, [], ◌∷◌}
-use Prim.Native.Nat.{ℕ, zero, suc, ◌+◌, ◌≤◌, ◌<◌, ◌^◌}
+use mathlib.Core.Logic.{◌≢◌}
+use mathlib.Core.List.{List}
+use Prim.Native.Nat.{ℕ}
 use native.Mathlib.Decide.{ℕ_discrete}
 use native.Mathlib.Omega.{arith}
 use lib.ListN.{length}
-use lib.Seq.{ext_get_or}
 use Rattle.value.specs.declared.Ternary.{Ternary}
-use Rattle.value.specs.declared.Ternary.TheVariants.{V0}
 use Rattle.orders.specs.Vectors.{at, put, vector_of}
 use Rattle.orders.specs.Pairs.{pair_order}
 use Rattle.verdict.specs.Numbers.{number_from}
@@ -76,39 +74,39 @@ module _ (n i j : ℕ) (w : words.Witness) (d : Disagrees n i j w) where
     second_output = w.out2;
   }
 
-  held-before : before n held ≡ w.prev
+  held_before : before n held ≡ w.prev
   unfolding held
-  held-before = ap (λ (m : ℕ). vector_of m (number_from 0 w.prev)) (sym d.prev_long) ∙ vector_number w.prev
+  held_before = ap (λ (m : ℕ). vector_of m (number_from 0 w.prev)) (sym d.prev_long) ∙ vector_number w.prev
 
-  held-sound : Sound n held
+  held_sound : Sound n held
   unfolding held
-  held-sound = record {
+  held_sound = record {
     from = d.from;
     apart = d.apart;
     to = d.to;
     small = rw (← d.prev_long) (number_below w.prev);
-    first_differs = λ e. d.differs_i (ap (λ (v : List Ternary). at v i) (sym held-before) ∙ e);
-    second_differs = λ e. d.differs_j (ap (λ (v : List Ternary). at v j) (sym held-before) ∙ e);
+    first_differs = λ e. d.differs_i (ap (λ (v : List Ternary). at v i) (sym held_before) ∙ e);
+    second_differs = λ e. d.differs_j (ap (λ (v : List Ternary). at v j) (sym held_before) ∙ e);
     outputs = d.outputs;
   }
 
-  held-now : now n held ≡ w.cur
+  held_now : now n held ≡ w.cur
   unfolding held
-  held-now = ext_at (now n held) w.cur (now_length n held ∙ sym d.cur_long) (λ k l. go k (ℕ_discrete k i) (ℕ_discrete k j))
+  held_now = ext_at (now n held) w.cur (now_length n held ∙ sym d.cur_long) (λ k l. go k (ℕ_discrete k i) (ℕ_discrete k j))
     where
       go : (k : ℕ) → Dec (k ≡ i) → Dec (k ≡ j) → at (now n held) k ≡ at w.cur k
-      go k (yes e) b = rw e (now_first n held held-sound)
-      go k (no a) (yes e) = rw e (now_second n held held-sound)
-      go k (no a) (no b) = sym (now_other n held k a b) ∙ ap (λ (v : List Ternary). at v k) held-before ∙ d.same k a b
+      go k (yes e) b = rw e (now_first n held held_sound)
+      go k (no a) (yes e) = rw e (now_second n held held_sound)
+      go k (no a) (no b) = sym (now_other n held k a b) ∙ ap (λ (v : List Ternary). at v k) held_before ∙ d.same k a b
 
-  held-shown : shown n held ≡ w
+  held_shown : shown n held ≡ w
   unfolding held shown
-  held-shown = rw (held-now, held-before, ← d.order_1, ← d.order_2)
+  held_shown = rw (held_now, held_before, ← d.order_1, ← d.order_2)
 
 pub fits_meant : {n : ℕ} {f : words.Finding} → Fits n f → (g : Finding) × SoundFinding n g × (meant n g ≡ f)
 unfolding meant
 fits_meant fits_independent = (Independent, tt, refl)
-fits_meant {n} (fits_dependent {w} i j d) = (Dependent (held n i j w d), held-sound n i j w d, ap words.dependent (held-shown n i j w d))
+fits_meant {n} (fits_dependent {w} i j d) = (Dependent (held n i j w d), held_sound n i j w d, ap words.dependent (held_shown n i j w d))
 
 -- ---- no two sound findings mean the same
 

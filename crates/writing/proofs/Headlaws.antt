@@ -11,8 +11,8 @@ use lib.Seq.{get_or-take}
 use borrow.Author.Tests.{lt-ltb, le-ltb, eqb-true, leb-true, ltb-true}
 use Rattle.base.specs.Limits.{input_limit, row_limit, name_limit}
 use Rattle.base.proofs.Bools.{both, lt_or_ge}
-use Rattle.base.proofs.Listed.{Filled, listed_at, listed-is}
-use Rattle.base.proofs.Patched.{Patched, patched-none, patched-more}
+use Rattle.base.proofs.Listed.{Filled, listed_at, listed_is}
+use Rattle.base.proofs.Patched.{Patched, patched_none, patched_more}
 use Rattle.table.specs.Places.{name_at, kind_at, inputs_at, start_at, count_at, rows_at, row_size, area_size}
 use Rattle.table.specs.Area.{area_byte, rows_byte, encode}
 use Rattle.value.specs.declared.Ternary.{Ternary}
@@ -30,17 +30,17 @@ pub patched_next : (f : ℕ → ℕ) (b s k p x : ℕ) (a l : List ℕ) → s �
     → Patched f b a l (k - s) → Patched f b a (set l p x) (k + 1 - s)
 patched_next f b s k p x a l h e g v w =
     let d : k + 1 - s ≡ k - s + 1 = omega arith in
-    rw (d, ← e) (patched-more f b a l (k - s) x (omega arith) v w)
+    rw (d, ← e) (patched_more f b a l (k - s) x (omega arith) v w)
 
 pub patched_from : (f : ℕ → ℕ) (b s : ℕ) (a : List ℕ) → Patched f b a a (s - s)
-patched_from f b s a = let e : s - s ≡ 0 = omega arith in rw e (patched-none f b a)
+patched_from f b s a = let e : s - s ≡ 0 = omega arith in rw e (patched_none f b a)
 
 -- the head is written first, then zeros
 pub head_left : (name : List ℕ) (sequential : Bool) (inputs : ℕ) (start : Ternary) (a l : List ℕ)
     → Filled (area_byte (head_of name sequential inputs start)) area_size a count_at → Patched (λ m. 0) count_at a l (area_size - count_at)
     → l ≡ encode (head_of name sequential inputs start)
 unfolding encode
-head_left name sequential inputs start a l f w = sym (listed-is (area_byte (head_of name sequential inputs start)) area_size l 0 (w.long ∙ f.long) place)
+head_left name sequential inputs start a l f w = sym (listed_is (area_byte (head_of name sequential inputs start)) area_size l 0 (w.long ∙ f.long) place)
   where
     place : (p : ℕ) → p < area_size → area_byte (head_of name sequential inputs start) p ≡ get_or l p 0
     place p h =

@@ -3,7 +3,7 @@ use mathlib.Core.Path.{refl}
 use native.Mathlib.Omega.{arith}
 use borrow.Author.Rules.{rules}
 use borrow.Author.Tests.{not-true, not-false}
-use Rattle.base.proofs.Listed.{Filled, filled_none, filled_more, filled-all}
+use Rattle.base.proofs.Listed.{Filled, filled_none, filled_more, filled_all}
 use Rattle.judge.proofs.Squares.{formed_by}
 use Rattle.bankplover.specs.Judges.{bit_of, square_cells}
 use Rattle.bankplover.proofs.bankplover_square.Statement.{statement}
@@ -35,4 +35,4 @@ bankplover_square_spec =
     (λ c.
     let i = c.before.before in
     let q = i.before.before in
-    rw (formed_by q.before.before.args.area.now q.square.result _ q.square.ensures (not-false _ i.if1.false), ← q.square.ensures) (refl, (filled-all _ 81 _ _ c.loop-test.false c.before.loop.invariant, refl))))
+    rw (formed_by q.before.before.args.area.now q.square.result _ q.square.ensures (not-false _ i.if1.false), ← q.square.ensures) (refl, (filled_all _ 81 _ _ c.loop-test.false c.before.loop.invariant, refl))))

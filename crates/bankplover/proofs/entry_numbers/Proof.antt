@@ -1,7 +1,7 @@
 use Prim.Native.Nat.{◌-◌}
 use native.Mathlib.Omega.{arith}
 use borrow.Author.Rules.{rules}
-use Rattle.base.proofs.Listed.{Filled, filled_none, filled_more, filled-all}
+use Rattle.base.proofs.Listed.{Filled, filled_none, filled_more, filled_all}
 use Rattle.bankplover.specs.Books.{entry_number}
 use Rattle.bankplover.proofs.entry_numbers.Statement.{statement}
 use Rattle.bankplover.proofs.entry_numbers.Tie as tie
@@ -58,7 +58,7 @@ entry_numbers_spec =
     c.before.before.loop.inv)
     (λ
     c.
-    filled-all
+    filled_all
     _
     13
     _

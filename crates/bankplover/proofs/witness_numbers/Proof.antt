@@ -1,7 +1,7 @@
 use Prim.Native.Nat.{◌-◌}
 use native.Mathlib.Omega.{arith}
 use borrow.Author.Rules.{rules}
-use Rattle.base.proofs.Listed.{Filled, filled_none, filled_more, filled-all}
+use Rattle.base.proofs.Listed.{Filled, filled_none, filled_more, filled_all}
 use Rattle.bankplover.specs.Books.{witness_number}
 use Rattle.bankplover.proofs.witness_numbers.Statement.{statement}
 use Rattle.bankplover.proofs.witness_numbers.Tie as tie
@@ -25,4 +25,4 @@ witness_numbers_spec =
     (λ c. omega arith)
     (λ c. omega arith)
     (λ c. filled_more _ 8 _ _ _ c.before.loop-test.true c.witness-number.ensures c.before.before.loop.invariant)
-    (λ c. filled-all _ 8 _ _ c.loop-test.false c.before.loop.invariant))
+    (λ c. filled_all _ 8 _ _ c.loop-test.false c.before.loop.invariant))

@@ -1,9 +1,7 @@
-use borrow.Author.Rules.{rules}
 use Rattle.book.specs.Book.{appended}
 use Rattle.book.proofs.append.Goals as goal
 
 -- `book::append` meets its contract. Assumes nothing.
-use Prim.Native.Nat.{◌-◌}
 
 pub returns-in-Refused : goal.returns-in-Refused
 unfolding appended

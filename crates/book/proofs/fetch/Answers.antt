@@ -1,10 +1,8 @@
-use borrow.Author.Rules.{rules}
 use borrow.Author.Tests.{ne_eqb, lt-ltb, le-ltb}
 use Rattle.book.specs.Book.{fetched}
 use Rattle.book.proofs.fetch.Goals as goal
 
 -- `book::fetch` meets its contract. Assumes nothing.
-use Prim.Native.Nat.{◌-◌}
 
 pub returns-then-k-eq0 : goal.returns-then-k-eq0
 unfolding fetched

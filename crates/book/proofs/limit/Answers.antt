@@ -2,7 +2,6 @@ use borrow.Author.Tests.{lt-ltb, le-ltb}
 use Rattle.book.proofs.limit.Goals as goal
 
 -- `book::limit` meets its contract. Assumes nothing.
-use Prim.Native.Nat.{◌-◌}
 
 pub returns-then-size-lt-BOOK : goal.returns-then-size-lt-BOOK
 returns-then-size-lt-BOOK c = rw (lt-ltb _ _ c.if-size-lt-BOOK.true)

@@ -1,6 +1,5 @@
 use mathlib.Core.Path.{sym}
 use native.Mathlib.Omega.{arith}
-use borrow.Author.Rules.{rules}
 use borrow.Author.Tests.{lt-ltb, le-ltb}
 use lib.Seq.{length-take-le}
 use Rattle.book.specs.Book.{opened}
@@ -8,7 +7,6 @@ use Rattle.book.proofs.Appending.{limit_le}
 use Rattle.book.proofs.open_book.Goals as goal
 
 -- `book::open_book` meets its contract. Assumes nothing.
-use Prim.Native.Nat.{◌-◌}
 
 pub returns-then-most-stated : goal.returns-then-most-stated
 unfolding opened

@@ -1,13 +1,10 @@
 use Rattle.std.proofs.Common.{◌-◌, ◌≤◌}
-use mathlib.Core.Path.{◌≡◌, sym, ◌∙◌}
-use native.Mathlib.Omega.{arith}
-use borrow.Author.Rules.{rules}
-use borrow.Author.Tests.{not-true, not-false}
+use mathlib.Core.Path.{◌≡◌}
 use lib.ListN.{length}
 use Rattle.files.specs.Files.{LF}
 use Rattle.files.specs.Parts.{next_mark}
 use Rattle.book.specs.Book.{opened_file}
-use Rattle.book.proofs.Opening.{from_here, at_start, in_order, line-fails, line-holds, no_line}
+use Rattle.book.proofs.Opening.{from_here}
 use Rattle.book.proofs.open_lines.Given as goal
 
 abbrev pub invariant-loop-end : goal.invariant-loop-end

@@ -1,23 +1,21 @@
 use mathlib.Core.Path.{◌≡◌, refl}
 use mathlib.Core.List.{[], ◌∷◌, ◌++◌}
 use native.Mathlib.Omega.{arith}
-use borrow.Author.Rules.{rules}
-use lib.ListN.{length, get_or}
+use lib.ListN.{get_or}
 use Rattle.files.specs.Files.{LF}
-use Rattle.base.proofs.Patched.{Patched, patched-none, patched-more}
+use Rattle.base.proofs.Patched.{patched_none, patched_more}
 use Rattle.entry.specs.Entry.{entry}
 use Rattle.entry.specs.Draft.{draft}
 use Rattle.book.proofs.Writing.{patched_bytes}
 use Rattle.book.proofs.write_line.Goals as goal
 
 -- `book::write_line` meets its contract: k bytes of the line stand in the book. Assumes nothing.
-use Prim.Native.Nat.{◌+◌, ◌-◌, ◌≤◌}
 
 pub loop-k-init : goal.loop-k-init
-loop-k-init c = (omega arith, refl, patched-none _ _ _)
+loop-k-init c = (omega arith, refl, patched_none _ _ _)
 
 pub loop-k-preserved : goal.loop-k-preserved
-loop-k-preserved c = let w = patched-more _ _ _ _ _ _ (omega arith) c.line_byte.ensures c.loop-k.invariant.2 in
+loop-k-preserved c = let w = patched_more _ _ _ _ _ _ (omega arith) c.line_byte.ensures c.loop-k.invariant.2 in
     (omega arith, w.long, w)
 
 pub shape_of-book : goal.shape_of-book

@@ -1,14 +1,11 @@
 use Rattle.std.proofs.Common.{◌-◌, ◌≤◌}
-use mathlib.Core.Path.{◌≡◌, refl}
+use mathlib.Core.Path.{◌≡◌}
 use mathlib.Core.List.{[], ◌∷◌, ◌++◌}
-use native.Mathlib.Omega.{arith}
-use borrow.Author.Rules.{rules}
 use lib.ListN.{length, get_or}
 use Rattle.files.specs.Files.{LF}
-use Rattle.base.proofs.Patched.{Patched, patched-none, patched-more}
+use Rattle.base.proofs.Patched.{Patched}
 use Rattle.entry.specs.Entry.{entry}
 use Rattle.entry.specs.Draft.{draft}
-use Rattle.book.proofs.Writing.{patched_bytes}
 use Rattle.book.proofs.write_line.Given as goal
 
 abbrev pub invariant-loop-k : goal.invariant-loop-k

@@ -1,13 +1,11 @@
-use Prim.Native.Nat.{ℕ, suc, ◌+◌, ◌-◌, ◌≤◌}
+use Prim.Native.Nat.{ℕ, suc, ◌+◌, ◌-◌}
 use mathlib.Core.Path.{◌≡◌, sym, ◌∙◌}
 use native.Mathlib.Omega.{arith}
 use lib.Dec.{eqb}
 use lib.ListN.{length, get_or, get_or-eq_default}
-use borrow.Author.Rules.{rules}
 use borrow.Author.Tests.{eq-eqb}
 use Rattle.base.specs.Search.{every}
-use Rattle.base.proofs.Search.{every-none}
-use Rattle.canonical.specs.Parts.{zero_from}
+use Rattle.base.proofs.Search.{every_none}
 use Rattle.canonical.proofs.Parts.{every_rest}
 use Rattle.canonical.proofs.are_zero.Goals as goal
 
@@ -15,7 +13,7 @@ pub loop-p-init : goal.loop-p-init
 loop-p-init c =
     let from = c.args.from in
     let e : from - from ≡ 0 = omega arith in
-    (omega arith, omega arith, rw e (sym (every-none _)))
+    (omega arith, omega arith, rw e (sym (every_none _)))
 
 pub bounds-a-p : goal.bounds-a-p
 bounds-a-p c = omega (arith, c.lesser-end.ensures.right)

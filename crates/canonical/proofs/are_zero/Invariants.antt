@@ -1,14 +1,6 @@
-use Prim.Native.Nat.{ℕ, suc, ◌+◌, ◌-◌, ◌≤◌}
-use mathlib.Core.Path.{◌≡◌, sym, ◌∙◌}
-use native.Mathlib.Omega.{arith}
-use lib.Dec.{eqb}
-use lib.ListN.{length, get_or, get_or-eq_default}
-use borrow.Author.Rules.{rules}
-use borrow.Author.Tests.{eq-eqb}
-use Rattle.base.specs.Search.{every}
-use Rattle.base.proofs.Search.{every-none}
+use Prim.Native.Nat.{◌-◌, ◌≤◌}
+use mathlib.Core.Path.{◌≡◌}
 use Rattle.canonical.specs.Parts.{zero_from}
-use Rattle.canonical.proofs.Parts.{every_rest}
 use Rattle.canonical.proofs.are_zero.Given as goal
 
 abbrev pub invariant-loop-p : goal.invariant-loop-p

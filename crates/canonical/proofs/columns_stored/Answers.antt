@@ -1,12 +1,9 @@
-use Prim.Native.Nat.{◌-◌, ◌*◌, ◌≤◌}
 use mathlib.Core.Path.{◌≡◌, sym}
 use native.Mathlib.Omega.{arith}
-use borrow.Author.Rules.{rules}
-use Rattle.base.proofs.Search.{every-none}
+use Rattle.base.proofs.Search.{every_none}
 use Rattle.table.specs.Places.{count_at}
-use Rattle.canonical.specs.Parts.{row_as_encoded}
 use Rattle.table.proofs.Encoding.{decode_count}
-use Rattle.canonical.proofs.Parts.{column-more}
+use Rattle.canonical.proofs.Parts.{column_more}
 use Rattle.canonical.proofs.columns_stored.Goals as goal
 
 pub overflow_mul-at : goal.overflow_mul-at
@@ -16,7 +13,7 @@ pub overflow_add-at : goal.overflow_add-at
 overflow_add-at c = omega (arith, c.shared_slice_known-1.given count_at, decode_count c.args.a.now, c.requires.0)
 
 pub loop-k-init : goal.loop-k-init
-loop-k-init c = (omega arith, sym (every-none _))
+loop-k-init c = (omega arith, sym (every_none _))
 
 pub overflow_mul-k : goal.overflow_mul-k
 overflow_mul-k c = omega (arith, c.shared_slice_known-1.given count_at, decode_count c.args.a.now, c.requires.0, c.requires.2)
@@ -38,7 +35,7 @@ loop-k-preserved c =
     let k = c.loop-k.k in (
     omega arith,
     rw (c.loop-k.invariant.1, c.stores_symbol-all.ensures, c.byte_at-b.ensures, c.byte_at-c.ensures)
-    (column-more c.args.a.now c.args.i c.requires.0 k (omega (arith, c.requires.1)) (omega (arith, c.requires.2))),
+    (column_more c.args.a.now c.args.i c.requires.0 k (omega (arith, c.requires.1)) (omega (arith, c.requires.2))),
     )
 
 pub returns : goal.returns

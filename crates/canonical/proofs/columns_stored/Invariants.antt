@@ -1,12 +1,6 @@
 use Prim.Native.Nat.{◌-◌, ◌*◌, ◌≤◌}
-use mathlib.Core.Path.{◌≡◌, sym}
-use native.Mathlib.Omega.{arith}
-use borrow.Author.Rules.{rules}
-use Rattle.base.proofs.Search.{every-none}
-use Rattle.table.specs.Places.{count_at}
+use mathlib.Core.Path.{◌≡◌}
 use Rattle.canonical.specs.Parts.{row_as_encoded}
-use Rattle.table.proofs.Encoding.{decode_count}
-use Rattle.canonical.proofs.Parts.{column-more}
 use Rattle.canonical.proofs.columns_stored.Given as goal
 
 abbrev pub invariant-loop-k : goal.invariant-loop-k

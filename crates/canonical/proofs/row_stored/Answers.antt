@@ -1,12 +1,11 @@
-use Prim.Native.Nat.{ℕ, ◌+◌, ◌-◌, ◌*◌, ◌≤◌, ◌<◌}
+use Prim.Native.Nat.{ℕ, ◌-◌, ◌*◌, ◌≤◌}
 use mathlib.Core.Path.{◌≡◌, sym, ◌∙◌}
 use native.Mathlib.Omega.{arith}
-use borrow.Author.Rules.{rules}
 use borrow.Author.Tests.{not-true, not-false}
 use Rattle.base.specs.Limits.{input_limit}
 use Rattle.table.specs.Places.{count_at, state_at, row_size, row_place}
 use Rattle.table.specs.Area.{decode}
-use Rattle.canonical.specs.Parts.{as_encoded, row_as_encoded, zero_from}
+use Rattle.canonical.specs.Parts.{as_encoded, row_as_encoded}
 use Rattle.table.proofs.Encoding.{decode_count}
 use Rattle.canonical.proofs.Parts.{fails_with, every_less, row_zero, row_is}
 use Rattle.canonical.proofs.row_stored.Goals as goal

@@ -1,10 +1,8 @@
-use borrow.Author.Rules.{rules}
 use borrow.Author.Tests.{le-ltb}
 use Rattle.entry.proofs.Fields.{one_digit, second_digit}
 use Rattle.entry.proofs.decimal_byte.Goals as goal
 
 -- `entry::decimal_byte` meets its contract. Assumes nothing.
-use Prim.Native.Nat.{◌-◌}
 
 pub returns-then-x-lt10 : goal.returns-then-x-lt10
 returns-then-x-lt10 c = one_digit _ _ _ _ c.if-x-lt10.true c.digit.ensures c.lone.ensures

@@ -2,7 +2,6 @@ use borrow.Author.Tests.{lt-ltb, le-ltb}
 use Rattle.entry.proofs.decimal_length.Goals as goal
 
 -- `entry::decimal_length` meets its contract. Assumes nothing.
-use Prim.Native.Nat.{◌-◌}
 
 pub returns-then-x-lt10 : goal.returns-then-x-lt10
 returns-then-x-lt10 c = rw (lt-ltb _ _ c.if-x-lt10.true)

@@ -1,12 +1,10 @@
 use mathlib.Core.Path.{sym}
 use native.Mathlib.Omega.{arith}
-use borrow.Author.Rules.{rules}
 use lib.ListN.{get_or-eq_default}
 use Rattle.entry.proofs.Fields.{byte_after}
 use Rattle.entry.proofs.field_byte.Goals as goal
 
 -- `entry::field_byte` meets its contract. Assumes nothing.
-use Prim.Native.Nat.{◌-◌}
 
 pub returns-then-k-name : goal.returns-then-k-name
 returns-then-k-name c = rw c.in-0.is

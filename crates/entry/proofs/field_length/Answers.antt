@@ -1,10 +1,8 @@
 use native.Mathlib.Omega.{arith}
-use borrow.Author.Rules.{rules}
 use Rattle.entry.proofs.Fields.{length_after}
 use Rattle.entry.proofs.field_length.Goals as goal
 
 -- `entry::field_length` meets its contract. Assumes nothing.
-use Prim.Native.Nat.{◌-◌}
 
 pub returns-in-0 : goal.returns-in-0
 returns-in-0 c = rw c.in-0.is

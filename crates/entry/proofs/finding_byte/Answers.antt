@@ -1,12 +1,10 @@
 use mathlib.Core.List.{[], ◌∷◌}
 use native.Mathlib.Omega.{arith}
-use borrow.Author.Rules.{rules}
 use Prim.Native.Char.{code}
 use Rattle.entry.proofs.Fields.{byte_past}
 use Rattle.entry.proofs.finding_byte.Goals as goal
 
 -- `entry::finding_byte` meets its contract. Assumes nothing.
-use Prim.Native.Nat.{◌-◌}
 
 pub returns-then-m-eq0 : goal.returns-then-m-eq0
 returns-then-m-eq0 c = rw (c.in-Independent.is, c.if-m-eq0.true) c.lone.ensures

@@ -1,18 +1,15 @@
-use mathlib.Core.Path.{◌≡◌, sym, ap, ◌∙◌}
+use mathlib.Core.Path.{sym, ap, ◌∙◌}
 use mathlib.Core.List.{[], ◌∷◌, ◌++◌}
 use native.Mathlib.Omega.{arith}
-use borrow.Author.Rules.{rules}
-use lib.ListN.{get_or, drop}
+use lib.ListN.{get_or}
 use Rattle.files.specs.Files.{LF}
-use Rattle.files.specs.Parts.{join}
-use Rattle.files.proofs.Parts.{byte-in, byte-mark, byte_more, byte-rest}
-use Rattle.entry.specs.Entry.{space, fields, trailer, entry}
+use Rattle.files.proofs.Parts.{byte_in_lem, byte_mark, byte_more, byte_rest}
+use Rattle.entry.specs.Entry.{space, fields, trailer}
 use Rattle.entry.specs.Draft.{draft}
 use Rattle.entry.proofs.Fields.{findings_few, line_parts}
 use Rattle.entry.proofs.line_byte.Goals as goal
 
 -- `entry::line_byte` meets its contract: byte k of the line is byte i of what stands from field m on. Assumes nothing.
-use Prim.Native.Nat.{◌+◌, ◌-◌}
 
 pub overflow_add-count : goal.overflow_add-count
 overflow_add-count c = omega (arith, c.finding_count-count.ensures, findings_few c.args.inputs c.args.finding)
@@ -22,11 +19,11 @@ loop-m-init c = let a = c.args in ap (λ l. get_or l a.k 0) (line_parts a.s (dra
 
 pub returns-then-i-l : goal.returns-then-i-l
 returns-then-i-l c = let a = c.args in
-    c.field_byte.ensures ∙ sym (c.loop-m.invariant ∙ byte-in space (fields (draft (record { name = a.name.now; inputs = a.inputs; rows = a.rows; finding = a.finding }))) (trailer a.s ++ (LF ∷ [])) c.loop-m.m c.loop-m.i (omega (arith, c.loop-m-test.true, c.finding_count-count.ensures)) (omega (arith, c.if-i-l.true, c.field_length-l.ensures)))
+    c.field_byte.ensures ∙ sym (c.loop-m.invariant ∙ byte_in_lem space (fields (draft (record { name = a.name.now; inputs = a.inputs; rows = a.rows; finding = a.finding }))) (trailer a.s ++ (LF ∷ [])) c.loop-m.m c.loop-m.i (omega (arith, c.loop-m-test.true, c.finding_count-count.ensures)) (omega (arith, c.if-i-l.true, c.field_length-l.ensures)))
 
 pub returns-then-i-l-2 : goal.returns-then-i-l-2
 returns-then-i-l-2 c = let a = c.args in
-    sym (c.loop-m.invariant ∙ byte-mark space (fields (draft (record { name = a.name.now; inputs = a.inputs; rows = a.rows; finding = a.finding }))) (trailer a.s ++ (LF ∷ [])) c.loop-m.m c.loop-m.i (omega (arith, c.loop-m-test.true, c.finding_count-count.ensures)) (c.if-i-l-2.true ∙ c.field_length-l.ensures))
+    sym (c.loop-m.invariant ∙ byte_mark space (fields (draft (record { name = a.name.now; inputs = a.inputs; rows = a.rows; finding = a.finding }))) (trailer a.s ++ (LF ∷ [])) c.loop-m.m c.loop-m.i (omega (arith, c.loop-m-test.true, c.finding_count-count.ensures)) (c.if-i-l-2.true ∙ c.field_length-l.ensures))
 
 pub overflow_add-m : goal.overflow_add-m
 overflow_add-m c = omega (arith, c.loop-m-test.true, c.finding_count-count.ensures, findings_few c.args.inputs c.args.finding)
@@ -37,4 +34,4 @@ loop-m-preserved c = let a = c.args in
 
 pub returns : goal.returns
 returns c = let a = c.args in
-    c.trailer_byte.ensures ∙ sym (c.loop-m.invariant ∙ byte-rest space (fields (draft (record { name = a.name.now; inputs = a.inputs; rows = a.rows; finding = a.finding }))) (trailer a.s ++ (LF ∷ [])) c.loop-m.m c.loop-m.i (omega (arith, c.loop-m-test.false, c.finding_count-count.ensures)))
+    c.trailer_byte.ensures ∙ sym (c.loop-m.invariant ∙ byte_rest space (fields (draft (record { name = a.name.now; inputs = a.inputs; rows = a.rows; finding = a.finding }))) (trailer a.s ++ (LF ∷ [])) c.loop-m.m c.loop-m.i (omega (arith, c.loop-m-test.false, c.finding_count-count.ensures)))

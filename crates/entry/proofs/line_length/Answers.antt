@@ -1,13 +1,11 @@
 use mathlib.Core.Path.{sym, ◌∙◌}
 use native.Mathlib.Omega.{arith}
-use borrow.Author.Rules.{rules}
 use borrow.Author.Tests.{not-true, not-false}
 use Rattle.entry.proofs.Fields.{decimal_few, line_short, line_long}
 use Rattle.handed.proofs.Fit.{Parts, parts_of, name_short}
 use Rattle.entry.proofs.line_length.Goals as goal
 
 -- `entry::line_length` meets its contract. Assumes nothing.
-use Prim.Native.Nat.{◌-◌}
 
 pub returns-then-not-fits : goal.returns-then-not-fits
 returns-then-not-fits c = rw (← c.fits.ensures, not-true c.fits.result c.if-not-fits.true-raw)

@@ -2,7 +2,6 @@ use Rattle.entry.proofs.Fields.{lone_past}
 use Rattle.entry.proofs.lone.Goals as goal
 
 -- `entry::lone` meets its contract. Assumes nothing.
-use Prim.Native.Nat.{◌-◌}
 
 pub returns-then-k-eq0 : goal.returns-then-k-eq0
 returns-then-k-eq0 c = rw c.if-k-eq0.true

@@ -1,9 +1,7 @@
-use borrow.Author.Rules.{rules}
 use Rattle.entry.proofs.Bytes.{now_byte_past, now_byte_at}
 use Rattle.entry.proofs.now_byte.Goals as goal
 
 -- `entry::now_byte` meets its contract. Assumes nothing.
-use Prim.Native.Nat.{◌-◌}
 
 pub returns-then-n-k : goal.returns-then-n-k
 returns-then-n-k c = now_byte_past _ c.args.w _ c.if-n-k.true

@@ -1,11 +1,9 @@
-use borrow.Author.Rules.{rules}
 use borrow.Author.Tests.{eq-eqb, ne_eqb, lt-ltb, le-ltb}
 use Rattle.entry.specs.Draft.{order_at}
 use Rattle.entry.proofs.Bytes.{order_is, order_past}
 use Rattle.entry.proofs.order_byte.Goals as goal
 
 -- `entry::order_byte` meets its contract. Assumes nothing.
-use Prim.Native.Nat.{◌-◌}
 
 pub returns-then-n-k : goal.returns-then-n-k
 unfolding order_at

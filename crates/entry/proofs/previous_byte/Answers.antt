@@ -1,9 +1,7 @@
-use borrow.Author.Rules.{rules}
 use Rattle.entry.proofs.Bytes.{vector_byte_past, vector_byte_at}
 use Rattle.entry.proofs.previous_byte.Goals as goal
 
 -- `entry::previous_byte` meets its contract. Assumes nothing.
-use Prim.Native.Nat.{◌-◌}
 
 pub returns-then-n-k : goal.returns-then-n-k
 returns-then-n-k c = vector_byte_past _ _ _ c.if-n-k.true

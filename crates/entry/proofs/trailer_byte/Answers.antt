@@ -1,9 +1,7 @@
-use borrow.Author.Rules.{rules}
 use Rattle.entry.proofs.Fields.{trailer_past, seven}
 use Rattle.entry.proofs.trailer_byte.Goals as goal
 
 -- `entry::trailer_byte` meets its contract. Assumes nothing.
-use Prim.Native.Nat.{◌-◌}
 
 pub returns-in-0 : goal.returns-in-0
 returns-in-0 c = rw c.in-0.is

@@ -1,4 +1,3 @@
-use borrow.Author.Rules.{rules}
 use Rattle.value.specs.Value.{byte_of}
 use Rattle.entry.specs.Entry.{witness_fields}
 use Rattle.entry.specs.Draft.{drafted}
@@ -6,7 +5,6 @@ use Rattle.entry.proofs.Fields.{lone_is, byte_past, eight}
 use Rattle.entry.proofs.witness_byte.Goals as goal
 
 -- `entry::witness_byte` meets its contract. Assumes nothing.
-use Prim.Native.Nat.{◌-◌}
 
 pub returns-in-0 : goal.returns-in-0
 returns-in-0 c = rw c.in-0.is c.lone.ensures

@@ -6,7 +6,7 @@ use native.Mathlib.Omega.{arith}
 use borrow.Author.Rules.{rules}
 use borrow.Author.Count.{below_none, below_more}
 use Rattle.evaluation.specs.Called.{faulty, first_fault}
-use Rattle.base.proofs.Search.{first_found, first-none}
+use Rattle.base.proofs.Search.{first_found, first_none}
 use Rattle.evaluation.proofs.first_fault.Goals as goal
 
 pub loop-k-init : goal.loop-k-init
@@ -23,4 +23,4 @@ loop-k-preserved c = (omega arith, below_more _ _ c.loop-k.invariant.1 (sym c.is
 
 pub returns : goal.returns
 unfolding first_fault
-returns c = let e : c.loop-k.k ≡ length c.args.l.now = omega arith in rw e (sym (first-none _ _ (rw e at c.loop-k.invariant.1)))
+returns c = let e : c.loop-k.k ≡ length c.args.l.now = omega arith in rw e (sym (first_none _ _ (rw e at c.loop-k.invariant.1)))

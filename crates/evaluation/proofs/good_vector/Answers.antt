@@ -7,7 +7,7 @@ use borrow.Author.Rules.{rules}
 use borrow.Author.Tests.{eq-eqb, ne_eqb, not-true, not-false}
 use Rattle.evaluation.specs.Called.{is_value, good_vector}
 use Rattle.base.specs.Search.{every}
-use Rattle.base.proofs.Search.{every-none, every_more, every-fails}
+use Rattle.base.proofs.Search.{every_none, every_more, every_fails}
 use Rattle.evaluation.proofs.good_vector.Goals as goal
 
 pub returns-then-s-n : goal.returns-then-s-n
@@ -16,11 +16,11 @@ returns-then-s-n c = rw (ne_eqb _ _ c.if-s-n.true)
 
 pub loop-k-init : goal.loop-k-init
 unfolding good_vector
-loop-k-init c = (search rules, every-none _)
+loop-k-init c = (search rules, every_none _)
 
 pub returns-then-not-is_value : goal.returns-then-not-is_value
 unfolding good_vector
-returns-then-not-is_value c = rw (eq-eqb _ _ c.if-s-n.false, every-fails (λ (i : ℕ). is_value (get_or c.args.s.now i 0)) (length c.args.s.now) c.loop-k.k (omega arith) (sym c.is_value.ensures ∙ not-true _ c.if-not-is_value.true-raw))
+returns-then-not-is_value c = rw (eq-eqb _ _ c.if-s-n.false, every_fails (λ (i : ℕ). is_value (get_or c.args.s.now i 0)) (length c.args.s.now) c.loop-k.k (omega arith) (sym c.is_value.ensures ∙ not-true _ c.if-not-is_value.true-raw))
 
 pub loop-k-preserved : goal.loop-k-preserved
 unfolding good_vector

@@ -1,11 +1,7 @@
 use Rattle.std.proofs.Common.{◌+◌, ◌-◌}
-use mathlib.Core.Path.{◌≡◌, sym, ◌∙◌}
-use mathlib.Core.Logic.{⊎_elim}
-use native.Mathlib.Nat.{zero-add}
-use native.Mathlib.Omega.{arith}
+use mathlib.Core.Path.{◌≡◌}
 use lib.ListN.{length, drop}
 use Rattle.files.specs.Parts.{after_mark}
-use Rattle.files.proofs.Parts.{walk_stop, walk_end, walk_mark, walk_other}
 use Rattle.files.proofs.after.Given as goal
 
 abbrev pub invariant-loop-i : goal.invariant-loop-i

@@ -1,9 +1,7 @@
 use Rattle.std.proofs.Common.{◌-◌}
-use mathlib.Core.Path.{◌≡◌, refl, sym, ◌∙◌}
-use native.Mathlib.Omega.{arith}
+use mathlib.Core.Path.{◌≡◌}
 use lib.ListN.{length}
 use Rattle.files.specs.Parts.{next_mark}
-use Rattle.files.proofs.Parts.{next_more, next_here, next-none}
 use Rattle.files.proofs.next.Given as goal
 
 abbrev pub invariant-loop-i : goal.invariant-loop-i

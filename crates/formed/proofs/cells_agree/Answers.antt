@@ -4,7 +4,7 @@ use mathlib.Core.Bool.{true, not}
 use native.Mathlib.Omega.{arith}
 use borrow.Author.Rules.{rules}
 use Rattle.base.specs.Search.{every}
-use Rattle.base.proofs.Search.{every-none, every_more, every-fails}
+use Rattle.base.proofs.Search.{every_none, every_more, every_fails}
 use Rattle.table.specs.Area.{decode}
 use Rattle.table.specs.Table.{row_at}
 use Rattle.formed.specs.Tests.{contradict, row_agrees}
@@ -12,7 +12,7 @@ use Rattle.formed.proofs.cells_agree.Goals as goal
 
 pub loop-i-init : goal.loop-i-init
 unfolding row_agrees
-loop-i-init c = (search rules, every-none _)
+loop-i-init c = (search rules, every_none _)
 
 pub cells_contradict-requires : goal.cells_contradict-requires
 unfolding row_agrees
@@ -20,7 +20,7 @@ cells_contradict-requires c = (c.loop-i-test.true, c.requires.0, c.requires.1)
 
 pub returns-then-cells_contradict : goal.returns-then-cells_contradict
 unfolding row_agrees
-returns-then-cells_contradict c = sym (every-fails _ _ c.loop-i.i (omega arith) (ap not (sym c.cells_contradict.ensures ∙ c.if-cells_contradict.true)))
+returns-then-cells_contradict c = sym (every_fails _ _ c.loop-i.i (omega arith) (ap not (sym c.cells_contradict.ensures ∙ c.if-cells_contradict.true)))
 
 pub loop-i-preserved : goal.loop-i-preserved
 unfolding row_agrees

@@ -6,17 +6,17 @@ use borrow.Author.Rules.{rules}
 use lib.ListN.{get_or}
 use mathlib.Core.List.{[]}
 use Rattle.base.specs.Search.{every}
-use Rattle.base.proofs.Search.{every-none, every_more, every-fails}
+use Rattle.base.proofs.Search.{every_none, every_more, every_fails}
 use Rattle.symbol.specs.Match.{meet}
 use Rattle.table.specs.Area.{decode}
 use Rattle.table.specs.Table.{row_at, symbol_at}
 use Rattle.formed.specs.Tests.{columns_meet}
-use Rattle.formed.proofs.Sets.{sets-apart, sets-share}
+use Rattle.formed.proofs.Sets.{sets_apart, sets_share}
 use Rattle.formed.proofs.cells_meet.Goals as goal
 
 pub loop-k-init : goal.loop-k-init
 unfolding columns_meet
-loop-k-init c = (search rules, every-none _)
+loop-k-init c = (search rules, every_none _)
 
 pub offset_bounds-s-i : goal.offset_bounds-s-i
 unfolding columns_meet
@@ -47,13 +47,13 @@ unfolding columns_meet
 returns-then-s-i-eq0 c =
     let k = c.loop-k.k in
     let h : k < (decode c.args.a.now).inputs = omega arith in
-    sym (every-fails _ _ k h (sets-apart _ _ _ _ ((c.requires.1.row c.args.i c.requires.0).column k h) (c.requires.2.column k h) c.if-s-i-eq0.true))
+    sym (every_fails _ _ k h (sets_apart _ _ _ _ ((c.requires.1.row c.args.i c.requires.0).column k h) (c.requires.2.column k h) c.if-s-i-eq0.true))
 
 pub loop-k-preserved : goal.loop-k-preserved
 loop-k-preserved c =
     let k = c.loop-k.k in
     let h : k < (decode c.args.a.now).inputs = omega arith in
-    (omega arith, every_more _ _ c.loop-k.invariant.1 (sets-share _ _ _ _ ((c.requires.1.row c.args.i c.requires.0).column k h) (c.requires.2.column k h) c.if-s-i-eq0.false))
+    (omega arith, every_more _ _ c.loop-k.invariant.1 (sets_share _ _ _ _ ((c.requires.1.row c.args.i c.requires.0).column k h) (c.requires.2.column k h) c.if-s-i-eq0.false))
 
 pub returns : goal.returns
 unfolding columns_meet

@@ -6,7 +6,7 @@ use lib.Dec.{eqb}
 use borrow.Author.Rules.{rules}
 use borrow.Author.Tests.{not-true, not-false}
 use Rattle.base.specs.Search.{every}
-use Rattle.base.proofs.Search.{every-none, every_more, every-fails}
+use Rattle.base.proofs.Search.{every_none, every_more, every_fails}
 use Rattle.table.specs.Area.{decode}
 use Rattle.table.specs.Table.{row_at, symbol_at}
 use Rattle.table.specs.Match.{edge_at}
@@ -16,7 +16,7 @@ use Rattle.formed.proofs.columns_valid.Goals as goal
 
 pub loop-k-init : goal.loop-k-init
 unfolding columns_valid
-loop-k-init c = (search rules, every-none _)
+loop-k-init c = (search rules, every_none _)
 
 pub offset_bounds-c-k : goal.offset_bounds-c-k
 unfolding columns_valid
@@ -39,7 +39,7 @@ unfolding columns_valid
 returns-then-not-c-k c =
     let k = c.loop-k.k in
     let h : k < (decode c.args.a.now).inputs = omega arith in
-    sym (every-fails _ _ k h (rw c.edge_at-e.ensures at (sym (set_valid _ _ (eqb k c.edge_at-e.result) (c.requires.column k h)) ∙ not-true _ c.if-not-c-k.true-raw)))
+    sym (every_fails _ _ k h (rw c.edge_at-e.ensures at (sym (set_valid _ _ (eqb k c.edge_at-e.result) (c.requires.column k h)) ∙ not-true _ c.if-not-c-k.true-raw)))
 
 pub loop-k-preserved : goal.loop-k-preserved
 loop-k-preserved c =

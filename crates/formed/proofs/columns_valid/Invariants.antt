@@ -6,7 +6,7 @@ use lib.Dec.{eqb}
 use borrow.Author.Rules.{rules}
 use borrow.Author.Tests.{not-true, not-false}
 use Rattle.base.specs.Search.{every}
-use Rattle.base.proofs.Search.{every-none, every_more, every-fails}
+use Rattle.base.proofs.Search.{every_none, every_more, every_fails}
 use Rattle.table.specs.Area.{decode}
 use Rattle.table.specs.Table.{row_at, symbol_at}
 use Rattle.table.specs.Match.{edge_at}

@@ -7,7 +7,7 @@ use lib.ListN.{get_or}
 use Prim.Native.Nat.{◌%◌}
 use borrow.Author.Count.{below_none, below_more}
 use borrow.Author.Tests.{eq-eqb, ne_eqb}
-use Rattle.base.proofs.Search.{first_found, first-none}
+use Rattle.base.proofs.Search.{first_found, first_none}
 use Rattle.symbol.specs.Match.{is_edge}
 use Rattle.table.specs.Area.{decode}
 use Rattle.table.specs.Table.{row_at, symbol_at}
@@ -43,4 +43,4 @@ loop-k-preserved c =
 pub returns : goal.returns
 unfolding edge_at
 returns c = let e : c.loop-k.k ≡ (decode c.args.a.now).inputs = omega arith in
-    rw e (sym (first-none _ _ (rw e at c.loop-k.invariant.1)))
+    rw e (sym (first_none _ _ (rw e at c.loop-k.invariant.1)))

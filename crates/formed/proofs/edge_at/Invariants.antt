@@ -7,7 +7,7 @@ use lib.ListN.{get_or}
 use Prim.Native.Nat.{◌%◌}
 use borrow.Author.Count.{below_none, below_more}
 use borrow.Author.Tests.{eq-eqb, ne_eqb}
-use Rattle.base.proofs.Search.{first_found, first-none}
+use Rattle.base.proofs.Search.{first_found, first_none}
 use Rattle.symbol.specs.Match.{is_edge}
 use Rattle.table.specs.Area.{decode}
 use Rattle.table.specs.Table.{row_at, symbol_at}

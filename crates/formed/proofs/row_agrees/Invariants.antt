@@ -4,7 +4,7 @@ use mathlib.Core.Bool.{true, not}
 use native.Mathlib.Omega.{arith}
 use borrow.Author.Rules.{rules}
 use Rattle.base.specs.Search.{every}
-use Rattle.base.proofs.Search.{every-none, every_more, every-fails}
+use Rattle.base.proofs.Search.{every_none, every_more, every_fails}
 use Rattle.table.specs.Area.{decode}
 use Rattle.table.specs.Table.{row_at}
 use Rattle.formed.specs.Tests.{contradict, row_agrees}

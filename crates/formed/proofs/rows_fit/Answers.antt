@@ -8,7 +8,7 @@ use borrow.Author.Rules.{rules}
 use borrow.Author.Tests.{not-true, not-false}
 use Rattle.base.specs.Limits.{row_limit}
 use Rattle.base.specs.Search.{every}
-use Rattle.base.proofs.Search.{every-none, every_more, every-fails}
+use Rattle.base.proofs.Search.{every_none, every_more, every_fails}
 use Rattle.table.specs.Area.{decode}
 use Rattle.table.specs.Table.{row_at}
 use Rattle.formed.specs.Tests.{row_valid, rows_valid, row_agrees, rows_agree}
@@ -17,7 +17,7 @@ use Rattle.formed.proofs.Sets.{rows_none, rows_more}
 use Rattle.formed.proofs.rows_fit.Goals as goal
 
 pub loop-j-init : goal.loop-j-init
-loop-j-init c = (omega arith, length-replicate {A = List ℕ} row_limit (replicate {A = ℕ} cell_count 0), rows_none _ _, every-none _, every-none _)
+loop-j-init c = (omega arith, length-replicate {A = List ℕ} row_limit (replicate {A = ℕ} cell_count 0), rows_none _ _, every_none _, every_none _)
 
 pub cells_in-c-requires : goal.cells_in-c-requires
 cells_in-c-requires c = c.requires.0
@@ -30,7 +30,7 @@ unfolding rows_valid
 returns-then-not-row_valid c =
     let t = decode c.args.a.now in
     let v : rows_valid t ≡ false =
-    every-fails _ _ c.loop-j.j (omega (arith, c.rows-m.ensures)) (sym c.row_valid.ensures ∙ not-true _ c.if-not-row_valid.true-raw) in
+    every_fails _ _ c.loop-j.j (omega (arith, c.rows-m.ensures)) (sym c.row_valid.ensures ∙ not-true _ c.if-not-row_valid.true-raw) in
     rw v
 
 pub cells_agree-requires : goal.cells_agree-requires
@@ -41,7 +41,7 @@ unfolding rows_agree
 returns-then-not-cells_agree c =
     let t = decode c.args.a.now in
     let v : rows_agree t ≡ false =
-    every-fails _ _ c.loop-j.j (omega (arith, c.rows-m.ensures)) (sym c.cells_agree.ensures ∙ not-true _ c.if-not-cells_agree.true-raw) in
+    every_fails _ _ c.loop-j.j (omega (arith, c.rows-m.ensures)) (sym c.cells_agree.ensures ∙ not-true _ c.if-not-cells_agree.true-raw) in
     rw v (sym (and-false (rows_valid t)))
 
 pub offset_bounds-s-j : goal.offset_bounds-s-j

@@ -8,7 +8,7 @@ use borrow.Author.Rules.{rules}
 use borrow.Author.Tests.{not-true, not-false}
 use Rattle.base.specs.Limits.{row_limit}
 use Rattle.base.specs.Search.{every}
-use Rattle.base.proofs.Search.{every-none, every_more, every-fails}
+use Rattle.base.proofs.Search.{every_none, every_more, every_fails}
 use Rattle.table.specs.Area.{decode}
 use Rattle.table.specs.Table.{row_at}
 use Rattle.formed.specs.Tests.{row_valid, rows_valid, row_agrees, rows_agree}

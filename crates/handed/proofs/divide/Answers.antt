@@ -1,11 +1,8 @@
-use mathlib.Core.Path.{◌≡◌, refl, sym, ◌∙◌}
-use native.Mathlib.Omega.{arith}
-use Rattle.handed.specs.Handed.{thirds}
+use mathlib.Core.Path.{refl, sym, ◌∙◌}
 use Rattle.handed.proofs.Thirds.{thirds_step, thirds_end}
 use Rattle.handed.proofs.divide.Goals as goal
 
 -- `entry::divide` meets its contract: the answer is the answer from here. Assumes nothing.
-use Prim.Native.Nat.{◌-◌}
 
 pub loop-left-init : goal.loop-left-init
 loop-left-init c = refl

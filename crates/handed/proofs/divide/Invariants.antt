@@ -1,7 +1,5 @@
-use mathlib.Core.Path.{◌≡◌, refl, sym, ◌∙◌}
-use native.Mathlib.Omega.{arith}
+use mathlib.Core.Path.{◌≡◌}
 use Rattle.handed.specs.Handed.{thirds}
-use Rattle.handed.proofs.Thirds.{thirds_step, thirds_end}
 use Rattle.handed.proofs.divide.Given as goal
 
 abbrev pub invariant-loop-left : goal.invariant-loop-left

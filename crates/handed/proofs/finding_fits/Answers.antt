@@ -1,9 +1,7 @@
-use borrow.Author.Rules.{rules}
 use Rattle.handed.specs.Handed.{finding_fits}
 use Rattle.handed.proofs.finding_fits.Goals as goal
 
 -- `entry::finding_fits` meets its contract. Assumes nothing.
-use Prim.Native.Nat.{◌-◌}
 
 pub returns-in-Independent : goal.returns-in-Independent
 unfolding finding_fits

@@ -1,10 +1,8 @@
-use borrow.Author.Rules.{rules}
 use borrow.Author.Tests.{not-true, not-false}
 use Rattle.handed.specs.Handed.{fits_layout}
 use Rattle.handed.proofs.fits.Goals as goal
 
 -- `entry::fits` meets its contract. Assumes nothing.
-use Prim.Native.Nat.{◌-◌}
 
 pub returns-then-not-name_fits : goal.returns-then-not-name_fits
 unfolding fits_layout

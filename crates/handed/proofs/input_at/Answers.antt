@@ -1,9 +1,7 @@
-use borrow.Author.Rules.{rules}
 use Rattle.handed.proofs.Thirds.{input_is}
 use Rattle.handed.proofs.input_at.Goals as goal
 
 -- `entry::input_at` meets its contract. Assumes nothing.
-use Prim.Native.Nat.{◌-◌}
 
 pub returns : goal.returns
 returns c = input_is _ _ _ _ c.if-j-eq0.false c.value_at.ensures

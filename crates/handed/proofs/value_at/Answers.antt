@@ -1,9 +1,7 @@
-use borrow.Author.Rules.{rules}
 use Rattle.handed.proofs.Thirds.{vector_at, vector_past}
 use Rattle.handed.proofs.value_at.Goals as goal
 
 -- `entry::value_at` meets its contract. Assumes nothing.
-use Prim.Native.Nat.{◌-◌}
 
 pub returns-then-n-k : goal.returns-then-n-k
 returns-then-n-k c = vector_past _ _ _ c.if-n-k.true

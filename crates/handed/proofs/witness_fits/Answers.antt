@@ -1,9 +1,7 @@
-use borrow.Author.Rules.{rules}
 use Rattle.handed.specs.Handed.{witness_fits}
 use Rattle.handed.proofs.witness_fits.Goals as goal
 
 -- `entry::witness_fits` meets its contract. Assumes nothing.
-use Prim.Native.Nat.{◌-◌}
 
 pub returns : goal.returns
 unfolding witness_fits

@@ -2,7 +2,7 @@ use mathlib.Core.Path.{refl, sym, ◌∙◌}
 use native.Mathlib.Omega.{arith}
 use borrow.Author.Rules.{rules}
 use borrow.Author.Tests.{not-true, not-false}
-use Rattle.judge.proofs.Findings.{finding-right}
+use Rattle.judge.proofs.Findings.{finding_right}
 use Rattle.judge.proofs.Lending.{small_of, given_of}
 use Rattle.judge.proofs.judge.Goals as goal
 
@@ -25,4 +25,4 @@ finding-requires c = let w = small_of _ (sym c.well_formed-2.ensures ∙ not-fal
 pub returns : goal.returns
 returns c = let w = sym c.well_formed-2.ensures ∙ not-false _ c.if-not-well_formed.false-raw in
     let g = given_of _ _ _ _ _ _ w c.cells_of-s.ensures c.all_rows-all.ensures c.outputs-outs.ensures c.inputs.ensures c.rows.ensures in
-    (w, rw (c.finding.ensures _ g) (finding-right _ (small_of _ w) (small_of _ w).inputs))
+    (w, rw (c.finding.ensures _ g) (finding_right _ (small_of _ w) (small_of _ w).inputs))

@@ -4,7 +4,7 @@ use borrow.Author.Rules.{rules}
 use borrow.Author.Tests.{not-true, not-false}
 use Rattle.base.specs.Listed.{listed}
 use Rattle.judge.specs.Judge.{square_for}
-use Rattle.judge.proofs.Pairwise.{square-right}
+use Rattle.judge.proofs.Pairwise.{square_right}
 use Rattle.judge.proofs.Lending.{small_of, given_of}
 use Rattle.judge.proofs.square.Goals as goal
 
@@ -33,4 +33,4 @@ pub returns : goal.returns
 unfolding square_for listed
 returns c = let w = sym c.well_formed-2.ensures ∙ not-false _ c.if-not-well_formed.false-raw in
     let g = given_of _ _ _ _ _ _ w c.cells_of-s.ensures c.all_rows-all.ensures c.outputs-outs.ensures c.inputs.ensures c.rows.ensures in
-    rw w (c.square_at.ensures _ g ∙ square-right _ (small_of _ w))
+    rw w (c.square_at.ensures _ g ∙ square_right _ (small_of _ w))

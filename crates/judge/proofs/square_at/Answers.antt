@@ -4,7 +4,7 @@ use native.Mathlib.Omega.{arith}
 use borrow.Author.Rules.{rules}
 use Rattle.base.specs.Limits.{input_limit}
 use Rattle.base.specs.Listed.{listed}
-use Rattle.base.proofs.Listed.{Filled, filled_none, filled_more, filled-all}
+use Rattle.base.proofs.Listed.{Filled, filled_none, filled_more, filled_all}
 use Rattle.table.specs.Table.{Table}
 use Rattle.pair.specs.Search.{Given}
 use Rattle.judge.specs.Search.{yes_in, square_in}
@@ -26,4 +26,4 @@ loop-i-preserved c = λ t G.
 
 pub returns : goal.returns
 unfolding square_in
-returns c = λ t G. filled-all _ input_limit _ _ c.loop-i-test.false (c.loop-i.invariant t G)
+returns c = λ t G. filled_all _ input_limit _ _ c.loop-i-test.false (c.loop-i.invariant t G)

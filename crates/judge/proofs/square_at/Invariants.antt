@@ -4,7 +4,7 @@ use native.Mathlib.Omega.{arith}
 use borrow.Author.Rules.{rules}
 use Rattle.base.specs.Limits.{input_limit}
 use Rattle.base.specs.Listed.{listed}
-use Rattle.base.proofs.Listed.{Filled, filled_none, filled_more, filled-all}
+use Rattle.base.proofs.Listed.{Filled, filled_none, filled_more, filled_all}
 use Rattle.table.specs.Table.{Table}
 use Rattle.pair.specs.Search.{Given}
 use Rattle.judge.specs.Search.{yes_in, square_in}

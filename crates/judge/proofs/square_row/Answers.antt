@@ -5,7 +5,7 @@ use native.Mathlib.Omega.{arith}
 use lib.ListN.{get_or}
 use Rattle.base.specs.Limits.{input_limit}
 use Rattle.base.specs.Listed.{listed}
-use Rattle.base.proofs.Listed.{Filled, filled_none, filled_more, filled-all}
+use Rattle.base.proofs.Listed.{Filled, filled_none, filled_more, filled_all}
 use Rattle.table.specs.Table.{Table}
 use Rattle.pair.specs.Search.{Given}
 use Rattle.judge.specs.Search.{yes_in}
@@ -21,4 +21,4 @@ pub loop-j-preserved : goal.loop-j-preserved
 loop-j-preserved c = λ t G w. filled_more _ input_limit _ _ _ c.loop-j-test.true (c.yes_at.ensures t G w) (c.loop-j.invariant t G w)
 
 pub returns : goal.returns
-returns c = λ t G w. filled-all _ input_limit _ _ c.loop-j-test.false (c.loop-j.invariant t G w)
+returns c = λ t G w. filled_all _ input_limit _ _ c.loop-j-test.false (c.loop-j.invariant t G w)

@@ -1,7 +1,7 @@
 use native.Mathlib.Omega.{arith}
 use borrow.Author.Rules.{rules}
 use Rattle.plain.proofs.Telling.{plain_tells}
-use Rattle.lanes.proofs.Contexts.{pair-by}
+use Rattle.lanes.proofs.Contexts.{pair_by}
 use Rattle.lanes.proofs.pair_agrees.Goals as goal
 
 pub steady_rows-steady-requires : goal.steady_rows-steady-requires
@@ -34,7 +34,7 @@ outer_agree-requires c = (
     )
 
 pub returns : goal.returns
-returns c t G ea em = pair-by t _ _ _ _ _ _ G ea _ _ _ _ _ _
+returns c t G ea em = pair_by t _ _ _ _ _ _ G ea _ _ _ _ _ _
     c.top_of-t.ensures.0
     (rw c.before-2.ensures at c.top_of-u.ensures.0)
     (rw c.before-3.ensures at c.top_of-v.ensures.0)

@@ -2,7 +2,7 @@ use Prim.Native.Nat.{◌≤◌}
 use mathlib.Core.Path.{◌≡◌, refl}
 use native.Mathlib.Omega.{arith}
 use Rattle.lanes.specs.Columns.{top_of}
-use Rattle.lanes.proofs.Tops.{top-here, top-next, top-none}
+use Rattle.lanes.proofs.Tops.{top_here, top_next, top_none}
 use Rattle.lanes.proofs.top_of.Given as goal
 
 abbrev pub invariant-loop-q : goal.invariant-loop-q

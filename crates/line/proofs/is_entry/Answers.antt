@@ -1,20 +1,12 @@
-use mathlib.Core.Path.{◌≡◌, sym, ◌∙◌}
+use mathlib.Core.Path.{sym, ◌∙◌}
 use native.Mathlib.Omega.{arith}
-use borrow.Author.Rules.{rules}
-use lib.ListN.{length, get_or}
-use mathlib.Core.Bool.{true}
-use lib.Dec.{eqb}
 use lib.Seq.{length-take-le}
-use Rattle.base.specs.Search.{every}
-use Rattle.base.proofs.Search.{every-none, every_more}
-use Rattle.entry.specs.Entry.{entry}
-use Rattle.handed.specs.Handed.{verdict_of}
+use Rattle.base.proofs.Search.{every_none, every_more}
 use Rattle.line.specs.Told.{hand_of}
 use Rattle.line.proofs.Lines.{entry_of, told_short, unfit, other_length, other_byte, same_byte, all_same}
 use Rattle.line.proofs.is_entry.Goals as goal
 
 -- `line::is_entry` meets its contract: the first k bytes are those of the entry. Assumes nothing.
-use Prim.Native.Nat.{◌-◌, ◌≤◌}
 
 pub slice_bounds-name-end : goal.slice_bounds-name-end
 slice_bounds-name-end c = sym (length-take-le _ c.args.line.now (told_short c.args.line.now c.read_line-t.result c.read_line-t.ensures))
@@ -26,16 +18,16 @@ pub returns-then-whole-line : goal.returns-then-whole-line
 returns-then-whole-line c = sym (entry_of c.args.s c.args.line.now c.read_line-t.result c.read_line-t.ensures ∙ other_length c.args.line.now c.args.s (hand_of c.read_line-t.result c.args.line.now) _ c.line_length-whole.ensures c.if-whole-eq0.false c.if-whole-line.true)
 
 pub loop-k-init : goal.loop-k-init
-loop-k-init c = (omega arith, every-none _)
+loop-k-init c = (omega arith, every_none _)
 
 pub returns-then-line-k : goal.returns-then-line-k
 returns-then-line-k c = sym (entry_of c.args.s c.args.line.now c.read_line-t.result c.read_line-t.ensures ∙ other_byte c.args.line.now c.args.s (hand_of c.read_line-t.result c.args.line.now) _ c.line_length-whole.ensures c.if-whole-eq0.false c.if-whole-line.false _ _ c.loop-k-test.true c.line_byte.ensures c.if-line-k.true)
 
 pub loop-k-preserved : goal.loop-k-preserved
 loop-k-preserved c = (
-    omega arith,
-    every_more _ _ c.loop-k.invariant.1 (same_byte c.args.line.now c.args.s (hand_of c.read_line-t.result c.args.line.now) _ c.line_length-whole.ensures c.if-whole-eq0.false c.if-whole-line.false _ _ c.loop-k-test.true c.line_byte.ensures c.if-line-k.false),
-    )
+  omega arith,
+  every_more _ _ c.loop-k.invariant.1 (same_byte c.args.line.now c.args.s (hand_of c.read_line-t.result c.args.line.now) _ c.line_length-whole.ensures c.if-whole-eq0.false c.if-whole-line.false _ _ c.loop-k-test.true c.line_byte.ensures c.if-line-k.false),
+)
 
 pub returns : goal.returns
 returns c = sym (entry_of c.args.s c.args.line.now c.read_line-t.result c.read_line-t.ensures ∙ all_same c.args.line.now c.args.s (hand_of c.read_line-t.result c.args.line.now) _ c.line_length-whole.ensures c.if-whole-eq0.false c.if-whole-line.false c.loop-k.k c.loop-k-test.false c.loop-k.invariant.0 c.loop-k.invariant.1)

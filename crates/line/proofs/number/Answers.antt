@@ -1,10 +1,8 @@
 use mathlib.Core.Path.{◌∙◌}
-use borrow.Author.Rules.{rules}
 use Rattle.line.proofs.Lines.{number_one, number_two}
 use Rattle.line.proofs.number.Goals as goal
 
 -- `line::number` meets its contract. Assumes nothing.
-use Prim.Native.Nat.{◌-◌}
 
 pub returns-then-field_length-eq1 : goal.returns-then-field_length-eq1
 returns-then-field_length-eq1 c = number_one _ _ _ _ c.field_length.ensures c.if-field_length-eq1.true c.field_byte.ensures (c.wide-x.ensures ∙ c.figure.ensures)

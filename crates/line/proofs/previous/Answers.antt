@@ -1,15 +1,13 @@
 use mathlib.Core.Path.{◌≡◌}
 use native.Mathlib.Omega.{arith}
-use borrow.Author.Rules.{rules}
 use Rattle.base.specs.Limits.{input_limit}
 use Rattle.files.specs.Parts.{part_at}
 use Rattle.entry.specs.Entry.{space}
 use Rattle.orders.proofs.Candidates.{rank_low}
-use Rattle.line.proofs.Lines.{number_up_to, number_none, number_more, number_small, number_all}
+use Rattle.line.proofs.Lines.{number_none, number_more, number_small, number_all}
 use Rattle.line.proofs.previous.Goals as goal
 
 -- `line::previous` meets its contract: c is the number of the first k values. Assumes nothing.
-use Prim.Native.Nat.{◌-◌, ◌≤◌}
 
 pub loop-k-init : goal.loop-k-init
 loop-k-init c = (omega arith, omega arith, number_none (part_at space 4 c.args.line.now))
@@ -28,10 +26,10 @@ overflow_add-c c = let f = part_at space 4 c.args.line.now in
 
 pub loop-k-preserved : goal.loop-k-preserved
 loop-k-preserved c = let f = part_at space 4 c.args.line.now in (
-    omega (arith, c.if-k-ge-INPUTS.false),
-    omega (arith, c.loop-k-test.true),
-    number_more f c.loop-k.k _ _ _ _ (omega (arith, c.loop-k-test.true, c.field_length-size.ensures)) c.loop-k.invariant.2 c.field_byte.ensures c.value_of.ensures c.to_rank.ensures,
-    )
+  omega (arith, c.if-k-ge-INPUTS.false),
+  omega (arith, c.loop-k-test.true),
+  number_more f c.loop-k.k _ _ _ _ (omega (arith, c.loop-k-test.true, c.field_length-size.ensures)) c.loop-k.invariant.2 c.field_byte.ensures c.value_of.ensures c.to_rank.ensures,
+)
 
 pub returns : goal.returns
 returns c = let f = part_at space 4 c.args.line.now in

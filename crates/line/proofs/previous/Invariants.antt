@@ -1,12 +1,9 @@
 use Rattle.std.proofs.Common.{◌-◌, ◌≤◌}
 use mathlib.Core.Path.{◌≡◌}
-use native.Mathlib.Omega.{arith}
-use borrow.Author.Rules.{rules}
 use Rattle.base.specs.Limits.{input_limit}
 use Rattle.files.specs.Parts.{part_at}
 use Rattle.entry.specs.Entry.{space}
-use Rattle.orders.proofs.Candidates.{rank_low}
-use Rattle.line.proofs.Lines.{number_up_to, number_none, number_more, number_small, number_all}
+use Rattle.line.proofs.Lines.{number_up_to}
 use Rattle.line.proofs.previous.Given as goal
 
 abbrev pub invariant-loop-k : goal.invariant-loop-k

@@ -1,10 +1,8 @@
-use borrow.Author.Rules.{rules}
 use borrow.Author.Tests.{eq-eqb, ne_eqb}
 use Rattle.line.specs.Told.{told_by}
 use Rattle.line.proofs.read_line.Goals as goal
 
 -- `line::read_line` meets its contract. Assumes nothing.
-use Prim.Native.Nat.{◌-◌}
 
 pub returns-then-field_byte-eq73 : goal.returns-then-field_byte-eq73
 unfolding told_by

@@ -1,9 +1,7 @@
-use borrow.Author.Rules.{rules}
 use Rattle.line.specs.Told.{value_in}
 use Rattle.line.proofs.value_of.Goals as goal
 
 -- `line::value_of` meets its contract. Assumes nothing.
-use Prim.Native.Nat.{◌-◌}
 
 pub returns-in-Value : goal.returns-in-Value
 unfolding value_in

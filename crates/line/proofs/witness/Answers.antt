@@ -1,9 +1,7 @@
-use borrow.Author.Rules.{rules}
 use Rattle.line.specs.Told.{witness_in}
 use Rattle.line.proofs.witness.Goals as goal
 
 -- `line::witness` meets its contract. Assumes nothing.
-use Prim.Native.Nat.{◌-◌}
 
 pub returns : goal.returns
 unfolding witness_in

@@ -8,7 +8,7 @@ use lib.ListN.{get_or}
 use borrow.Author.Rules.{rules}
 use borrow.Author.Tests.{eq-eqb, ne_eqb}
 use Rattle.base.specs.Search.{every}
-use Rattle.base.proofs.Search.{every-none, every_more, every-fails}
+use Rattle.base.proofs.Search.{every_none, every_more, every_fails}
 use Rattle.files.specs.Files.{LF}
 use Rattle.entry.specs.Entry.{entry}
 use Rattle.entry.specs.Draft.{draft}
@@ -17,11 +17,11 @@ use Rattle.listing.proofs.stands.Goals as goal
 
 pub loop-k-init : goal.loop-k-init
 unfolding stands_in
-loop-k-init c = (omega arith, every-none _)
+loop-k-init c = (omega arith, every_none _)
 
 pub returns-then-byte_behind-line_byte : goal.returns-then-byte_behind-line_byte
 unfolding stands_in
-returns-then-byte_behind-line_byte c = sym (every-fails _ _ c.loop-k.k (omega arith) (ne_eqb _ _ (λ q. c.if-byte_behind-line_byte.true (c.byte_behind.ensures ∙ q ∙ sym c.line_byte.ensures))))
+returns-then-byte_behind-line_byte c = sym (every_fails _ _ c.loop-k.k (omega arith) (ne_eqb _ _ (λ q. c.if-byte_behind-line_byte.true (c.byte_behind.ensures ∙ q ∙ sym c.line_byte.ensures))))
 
 pub loop-k-preserved : goal.loop-k-preserved
 unfolding stands_in

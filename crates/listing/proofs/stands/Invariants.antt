@@ -8,7 +8,7 @@ use lib.ListN.{get_or}
 use borrow.Author.Rules.{rules}
 use borrow.Author.Tests.{eq-eqb, ne_eqb}
 use Rattle.base.specs.Search.{every}
-use Rattle.base.proofs.Search.{every-none, every_more, every-fails}
+use Rattle.base.proofs.Search.{every_none, every_more, every_fails}
 use Rattle.files.specs.Files.{LF}
 use Rattle.entry.specs.Entry.{entry}
 use Rattle.entry.specs.Draft.{draft}

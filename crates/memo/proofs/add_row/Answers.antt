@@ -3,12 +3,12 @@ use mathlib.Core.Path.{◌≡◌, refl, sym}
 use native.Mathlib.Nat.{div-one}
 use native.Mathlib.Omega.{arith}
 use lib.ListN.{get_or}
-use Rattle.base.proofs.Patched.{Patched, patched-none}
+use Rattle.base.proofs.Patched.{Patched, patched_none}
 use Rattle.memo.proofs.Offers.{next_bit, set_more}
 use Rattle.memo.proofs.add_row.Goals as goal
 
 pub loop-c-init : goal.loop-c-init
-loop-c-init c = (omega arith, sym (div-one _), patched-none _ _ _)
+loop-c-init c = (omega arith, sym (div-one _), patched_none _ _ _)
 
 pub overflow_mul-s : goal.overflow_mul-s
 overflow_mul-s c = omega (arith, c.loop-c.invariant.2.above c.loop-c.c (omega arith), c.requires.1 c.loop-c.c (omega arith))

@@ -3,7 +3,7 @@ use mathlib.Core.Path.{◌≡◌, refl, sym}
 use native.Mathlib.Nat.{div-one}
 use native.Mathlib.Omega.{arith}
 use lib.ListN.{get_or}
-use Rattle.base.proofs.Patched.{Patched, patched-none}
+use Rattle.base.proofs.Patched.{Patched, patched_none}
 use Rattle.memo.proofs.Offers.{next_bit, set_more}
 use Rattle.memo.proofs.add_row.Given as goal
 

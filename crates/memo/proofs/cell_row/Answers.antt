@@ -1,15 +1,15 @@
 use native.Mathlib.Omega.{arith}
 use borrow.Author.Rules.{rules}
 use Rattle.table.specs.Area.{decode}
-use Rattle.memo.proofs.Offers.{From, from-none, from-room, from_more, from_all}
+use Rattle.memo.proofs.Offers.{From, from_none, from_room, from_more, from_all}
 use Rattle.memo.proofs.cell_row.Goals as goal
 
 pub loop-i-init : goal.loop-i-init
-loop-i-init c = from-none _ _ _ c.rows-i.ensures
+loop-i-init c = from_none _ _ _ c.rows-i.ensures
 
 pub add_row-requires : goal.add_row-requires
 add_row-requires c = let p = c.requires in
-    (c.loop-i.invariant.long, from-room _ _ _ _ c.loop-i.invariant c.loop-i-test.true p.rows)
+    (c.loop-i.invariant.long, from_room _ _ _ _ c.loop-i.invariant c.loop-i-test.true p.rows)
 
 pub loop-i-preserved : goal.loop-i-preserved
 loop-i-preserved c = from_more _ _ _ _ _ _ c.loop-i-test.true c.loop-i.invariant c.offers_at.ensures c.add_row.ensures

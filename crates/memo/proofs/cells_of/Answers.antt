@@ -3,7 +3,7 @@ use mathlib.Core.Path.{◌∙◌}
 use native.Mathlib.Omega.{arith}
 use borrow.Author.Rules.{rules}
 use Rattle.base.specs.Limits.{input_limit}
-use Rattle.base.proofs.Listed.{Filled, filled_none, filled_more, filled-all}
+use Rattle.base.proofs.Listed.{Filled, filled_none, filled_more, filled_all}
 use Rattle.table.specs.Area.{decode}
 use Rattle.memo.specs.Rows.{cell_row, cells}
 use Rattle.memo.proofs.cells_of.Goals as goal
@@ -22,4 +22,4 @@ loop-k-preserved c = filled_more _ (suc input_limit) _ _ _ c.loop-k-test.true c.
 
 pub returns : goal.returns
 unfolding cells
-returns c = filled-all _ (suc input_limit) _ _ c.loop-k-test.false c.loop-k.invariant
+returns c = filled_all _ (suc input_limit) _ _ c.loop-k-test.false c.loop-k.invariant

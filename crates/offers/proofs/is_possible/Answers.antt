@@ -2,7 +2,6 @@ use mathlib.Core.Path.{◌≡◌, sym}
 use Rattle.symbol.specs.Masks.{offers}
 use Rattle.symbol.proofs.Offers.{possible_offers}
 use Rattle.stored.proofs.Stores.{symbol_of_bytes}
-use borrow.Author.Rules.{rules}
 use Rattle.offers.proofs.is_possible.Goals as goal
 
 pub returns : goal.returns

@@ -2,8 +2,6 @@ use Rattle.value.specs.Value.{same_value, rank_of, value_of}
 use Rattle.symbol.specs.Match.{offered, match_held, match_change, match_edge, match_level}
 use Rattle.symbol.specs.Masks.{offers, mask_of, mask_from}
 use Rattle.stored.specs.Stored.{letter_of}
-use borrow.Author.Tests.{ne_eqb}
-use borrow.Author.Rules.{rules}
 use Rattle.offers.proofs.letter_offers.Goals as goal
 
 pub returns-in-114 : goal.returns-in-114

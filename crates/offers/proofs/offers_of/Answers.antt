@@ -1,6 +1,5 @@
 use Rattle.stored.specs.Stored.{symbol_of}
 use borrow.Author.Tests.{eq-eqb, ne_eqb}
-use borrow.Author.Rules.{rules}
 use Rattle.offers.proofs.offers_of.Goals as goal
 
 pub returns-then-c-eq0 : goal.returns-then-c-eq0

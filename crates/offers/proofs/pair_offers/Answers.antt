@@ -2,7 +2,6 @@ use lib.Bits.{and_le_r}
 use Rattle.offers.proofs.Offers.{from_zero, from_one, from_x, from_binary, from_rest}
 use Rattle.stored.specs.Stored.{level_of}
 use native.Mathlib.Omega.{arith}
-use borrow.Author.Rules.{rules}
 use Rattle.offers.proofs.pair_offers.Goals as goal
 
 pub overflow_mul-from_zero : goal.overflow_mul-from_zero

@@ -3,7 +3,7 @@ use mathlib.Core.Path.{◌≡◌, sym, ap, ◌∙◌}
 use mathlib.Core.Bool.{false, not}
 use native.Mathlib.Omega.{arith}
 use borrow.Author.Count.{below_none, below_more}
-use Rattle.base.proofs.Search.{first_found, first-none}
+use Rattle.base.proofs.Search.{first_found, first_none}
 use Rattle.table.specs.Table.{Table}
 use Rattle.pair.specs.Search.{Known, differs_by}
 use Rattle.pair.proofs.first_case.Goals as goal
@@ -34,4 +34,4 @@ loop-c-preserved c = (omega arith, λ t W. below_more _ _ (c.loop-c.invariant.1 
 
 pub returns : goal.returns
 unfolding differs_by
-returns c = λ t W. let e : c.loop-c.c ≡ 27 = omega arith in rw e (sym (first-none _ _ (rw e at (c.loop-c.invariant.1 t W))))
+returns c = λ t W. let e : c.loop-c.c ≡ 27 = omega arith in rw e (sym (first_none _ _ (rw e at (c.loop-c.invariant.1 t W))))

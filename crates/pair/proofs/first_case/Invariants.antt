@@ -3,7 +3,7 @@ use mathlib.Core.Path.{◌≡◌, sym, ap, ◌∙◌}
 use mathlib.Core.Bool.{false, not}
 use native.Mathlib.Omega.{arith}
 use borrow.Author.Count.{below_none, below_more}
-use Rattle.base.proofs.Search.{first_found, first-none}
+use Rattle.base.proofs.Search.{first_found, first_none}
 use Rattle.table.specs.Table.{Table}
 use Rattle.pair.specs.Search.{Known, differs_by}
 use Rattle.pair.proofs.first_case.Given as goal

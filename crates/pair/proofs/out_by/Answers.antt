@@ -1,6 +1,6 @@
 use native.Mathlib.Omega.{arith}
 use borrow.Author.Rules.{rules}
-use Rattle.pair.proofs.Steps.{by_level, by-edge, by-none}
+use Rattle.pair.proofs.Steps.{by_level, by_edge, by_none}
 use Rattle.pair.proofs.out_by.Goals as goal
 
 pub out_at-requires : goal.out_at-requires
@@ -13,7 +13,7 @@ pub out_at-requires-then-k-m : goal.out_at-requires-then-k-m
 out_at-requires-then-k-m c = (omega arith, omega arith)
 
 pub returns-then-k-m : goal.returns-then-k-m
-returns-then-k-m c = (λ t K e. by-edge t _ _ K e _ _ _ _ _ _ c.requires.1 c.lowest_of-i.ensures c.if-i-m.false c.lowest_of-k.ensures c.if-k-m.true c.out_at-then-k-m.ensures.0, c.out_at-then-k-m.ensures.1)
+returns-then-k-m c = (λ t K e. by_edge t _ _ K e _ _ _ _ _ _ c.requires.1 c.lowest_of-i.ensures c.if-i-m.false c.lowest_of-k.ensures c.if-k-m.true c.out_at-then-k-m.ensures.0, c.out_at-then-k-m.ensures.1)
 
 pub returns : goal.returns
-returns c = (λ t K e. by-none t _ _ K e _ _ _ _ _ c.lowest_of-i.ensures c.if-i-m.false c.lowest_of-k.ensures c.if-k-m.false, omega arith)
+returns c = (λ t K e. by_none t _ _ K e _ _ _ _ _ c.lowest_of-i.ensures c.if-i-m.false c.lowest_of-k.ensures c.if-k-m.false, omega arith)

@@ -1,5 +1,5 @@
 use native.Mathlib.Omega.{arith}
-use Rattle.pair.proofs.Scans.{weight_some, output-is}
+use Rattle.pair.proofs.Scans.{weight_some, output_is}
 use Rattle.pair.proofs.output_at.Goals as goal
 
 pub nonzero_div-v : goal.nonzero_div-v
@@ -12,4 +12,4 @@ pub first_then-requires : goal.first_then-requires
 first_then-requires c = (omega arith, omega arith, omega arith, omega arith, omega arith, omega arith, omega arith, omega arith)
 
 pub returns : goal.returns
-returns c = λ t G. output-is t _ _ _ _ _ G _ _ _ _ c.power-wi.ensures c.power-wj.ensures _ _ _ _ _ _ c.others_of-rest.ensures (c.first_then.ensures.0 t G.known)
+returns c = λ t G. output_is t _ _ _ _ _ G _ _ _ _ c.power-wi.ensures c.power-wj.ensures _ _ _ _ _ _ c.others_of-rest.ensures (c.first_then.ensures.0 t G.known)

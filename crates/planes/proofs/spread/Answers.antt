@@ -7,14 +7,14 @@ use native.Mathlib.Omega.{arith}
 use borrow.Author.Rules.{rules}
 use Rattle.planes.specs.Words.{Told}
 use Rattle.planes.proofs.Bits.{lowest_lt}
-use Rattle.planes.proofs.Answers.{low_is, Going, going_none, going_more, going-empty, going-closed}
+use Rattle.planes.proofs.Answers.{low_is, Going, going_none, going_more, going_empty, going_closed}
 use Rattle.planes.proofs.spread.Goals as goal
 
 pub loop-left-init : goal.loop-left-init
 loop-left-init c = (search rules, search rules, λ f t. going_none _ _ _ _ f _ (search rules) t)
 
 pub returns-then-free-eq0 : goal.returns-then-free-eq0
-returns-then-free-eq0 c = record { told = λ f t. going-closed _ _ _ _ f _ _ _ c.if-free-eq0.true (c.loop-left.invariant.2 f t) }
+returns-then-free-eq0 c = record { told = λ f t. going_closed _ _ _ _ f _ _ _ c.if-free-eq0.true (c.loop-left.invariant.2 f t) }
 
 pub overflow_cast-r : goal.overflow_cast-r
 overflow_cast-r c = omega (arith, trailing_le 64 c.loop-left.left)
@@ -58,4 +58,4 @@ loop-left-preserved c = let l = c.loop-left in
     )
 
 pub returns : goal.returns
-returns c = record { told = λ f t. going-empty _ _ _ _ f _ _ _ c.loop-left-test.false (c.loop-left.invariant.2 f t) }
+returns c = record { told = λ f t. going_empty _ _ _ _ f _ _ _ c.loop-left-test.false (c.loop-left.invariant.2 f t) }

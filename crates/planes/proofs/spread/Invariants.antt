@@ -7,7 +7,7 @@ use native.Mathlib.Omega.{arith}
 use borrow.Author.Rules.{rules}
 use Rattle.planes.specs.Words.{Told}
 use Rattle.planes.proofs.Bits.{lowest_lt}
-use Rattle.planes.proofs.Answers.{low_is, Going, going_none, going_more, going-empty, going-closed}
+use Rattle.planes.proofs.Answers.{low_is, Going, going_none, going_more, going_empty, going_closed}
 use Rattle.planes.proofs.spread.Given as goal
 
 abbrev pub invariant-loop-left : goal.invariant-loop-left

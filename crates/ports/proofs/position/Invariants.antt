@@ -1,6 +1,6 @@
 use borrow.Author.Rules.{rules}
 use Rattle.ports.specs.Ports.{ports_of, find}
-use Rattle.ports.proofs.Keeping.{ports-length, ports-at}
+use Rattle.ports.proofs.Keeping.{ports_length, ports_at}
 use Rattle.ports.proofs.Flags.{find_cons, find_nil}
 use Rattle.text.proofs.Blanklaws.{adds, adds_zero, adds_more}
 use native.Mathlib.Nat.{add-zero}

@@ -2,7 +2,7 @@ use Rattle.text.specs.Reader.{◌>>=◌, check, if}
 use Rattle.text.specs.Places.{part}
 use Rattle.base.specs.Limits.{input_limit}
 use Rattle.ports.proofs.Steps.{ports_one, ports_full}
-use Rattle.ports.proofs.Keeping.{Going, known, unknown, inputs-more, kept_more, going_none}
+use Rattle.ports.proofs.Keeping.{Going, known, unknown, inputs_more, kept_more, going_none}
 use borrow.Author.Tests.{eq-eqb, ne_eqb}
 use lib.ListN.{length-set}
 use Prim.Native.Nat.{◌+◌, ◌-◌, suc}
@@ -49,11 +49,11 @@ bounds-ends-n c = let l = c.loop-n in omega (arith, l.invariant.kept.few, l.inva
 
 pub returns-then-more-ne1 : goal.returns-then-more-ne1
 unfolding ◌>>=◌ check if
-returns-then-more-ne1 c = let l = c.loop-n in let g = l.invariant in let t = c.args.text.now in let r : input_limit - l.n ≡ suc (input_limit - (l.n + 1)) = omega arith in record { said = rw (g.said, r, ports_one (input_limit - (l.n + 1)) _ _ _ _, c.read_name-w.ensures, c.in-At.is, unknown t l.starts l.ends _ (part t c.in-At.b c.in-At.f) l.n c.position.result g.kept.output (rw c.part.ensures at c.position.ensures) c.if-position-n.false, c.read_either-c.ensures, c.in-At-c.is, ne_eqb _ _ c.if-more-ne1.true, ← inputs-more t l.starts l.ends c.in-At.b c.in-At.f l.n g.long_starts g.long_ends c.loop-n-test.true); kept = kept_more t l.starts l.ends c.in-At.b c.in-At.f l.n g.long_starts g.long_ends c.loop-n-test.true _ _ g.kept (unknown t l.starts l.ends _ (part t c.in-At.b c.in-At.f) l.n c.position.result refl (rw c.part.ensures at c.position.ensures) c.if-position-n.false) }
+returns-then-more-ne1 c = let l = c.loop-n in let g = l.invariant in let t = c.args.text.now in let r : input_limit - l.n ≡ suc (input_limit - (l.n + 1)) = omega arith in record { said = rw (g.said, r, ports_one (input_limit - (l.n + 1)) _ _ _ _, c.read_name-w.ensures, c.in-At.is, unknown t l.starts l.ends _ (part t c.in-At.b c.in-At.f) l.n c.position.result g.kept.output (rw c.part.ensures at c.position.ensures) c.if-position-n.false, c.read_either-c.ensures, c.in-At-c.is, ne_eqb _ _ c.if-more-ne1.true, ← inputs_more t l.starts l.ends c.in-At.b c.in-At.f l.n g.long_starts g.long_ends c.loop-n-test.true); kept = kept_more t l.starts l.ends c.in-At.b c.in-At.f l.n g.long_starts g.long_ends c.loop-n-test.true _ _ g.kept (unknown t l.starts l.ends _ (part t c.in-At.b c.in-At.f) l.n c.position.result refl (rw c.part.ensures at c.position.ensures) c.if-position-n.false) }
 
 pub loop-n-preserved : goal.loop-n-preserved
 unfolding ◌>>=◌ check if
-loop-n-preserved c = let l = c.loop-n in let g = l.invariant in let t = c.args.text.now in let r : input_limit - l.n ≡ suc (input_limit - (l.n + 1)) = omega arith in record { long_starts = simp length-set g.long_starts; long_ends = simp length-set g.long_ends; kept = kept_more t l.starts l.ends c.in-At.b c.in-At.f l.n g.long_starts g.long_ends c.loop-n-test.true _ _ g.kept (unknown t l.starts l.ends _ (part t c.in-At.b c.in-At.f) l.n c.position.result refl (rw c.part.ensures at c.position.ensures) c.if-position-n.false); said = rw (g.said, r, ports_one (input_limit - (l.n + 1)) _ _ _ _, c.read_name-w.ensures, c.in-At.is, unknown t l.starts l.ends _ (part t c.in-At.b c.in-At.f) l.n c.position.result g.kept.output (rw c.part.ensures at c.position.ensures) c.if-position-n.false, c.read_either-c.ensures, c.in-At-c.is, eq-eqb _ _ c.if-more-ne1.false, ← inputs-more t l.starts l.ends c.in-At.b c.in-At.f l.n g.long_starts g.long_ends c.loop-n-test.true) }
+loop-n-preserved c = let l = c.loop-n in let g = l.invariant in let t = c.args.text.now in let r : input_limit - l.n ≡ suc (input_limit - (l.n + 1)) = omega arith in record { long_starts = simp length-set g.long_starts; long_ends = simp length-set g.long_ends; kept = kept_more t l.starts l.ends c.in-At.b c.in-At.f l.n g.long_starts g.long_ends c.loop-n-test.true _ _ g.kept (unknown t l.starts l.ends _ (part t c.in-At.b c.in-At.f) l.n c.position.result refl (rw c.part.ensures at c.position.ensures) c.if-position-n.false); said = rw (g.said, r, ports_one (input_limit - (l.n + 1)) _ _ _ _, c.read_name-w.ensures, c.in-At.is, unknown t l.starts l.ends _ (part t c.in-At.b c.in-At.f) l.n c.position.result g.kept.output (rw c.part.ensures at c.position.ensures) c.if-position-n.false, c.read_either-c.ensures, c.in-At-c.is, eq-eqb _ _ c.if-more-ne1.false, ← inputs_more t l.starts l.ends c.in-At.b c.in-At.f l.n g.long_starts g.long_ends c.loop-n-test.true) }
 
 pub returns-in_default-w : goal.returns-in_default-w
 unfolding ◌>>=◌ check if

@@ -2,7 +2,7 @@ use Rattle.text.specs.Reader.{◌>>=◌, check, if}
 use Rattle.text.specs.Places.{part}
 use Rattle.base.specs.Limits.{input_limit}
 use Rattle.ports.proofs.Steps.{ports_one, ports_full}
-use Rattle.ports.proofs.Keeping.{Going, known, unknown, inputs-more, kept_more, going_none}
+use Rattle.ports.proofs.Keeping.{Going, known, unknown, inputs_more, kept_more, going_none}
 use borrow.Author.Tests.{eq-eqb, ne_eqb}
 use lib.ListN.{length-set}
 use Prim.Native.Nat.{◌+◌, ◌-◌, suc}

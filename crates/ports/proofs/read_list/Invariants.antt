@@ -4,7 +4,7 @@ use Rattle.text.specs.Reader.{◌>>=◌, check, if}
 use Rattle.text.specs.Places.{part}
 use Rattle.ports.proofs.Steps.{list_one, list_none}
 use Rattle.base.specs.Limits.{input_limit}
-use Rattle.ports.proofs.Keeping.{fresh-test, fresh-raise}
+use Rattle.ports.proofs.Keeping.{fresh_test, fresh_raise}
 use Rattle.ports.proofs.Flags.{fresh_within}
 use borrow.Author.Tests.{eq-eqb, ne_eqb, not-true, not-false}
 use lib.ListN.{length, drop, length-set}

@@ -1,4 +1,4 @@
-use Rattle.reading.proofs.Whole.{read-end, read-refused, read_table}
+use Rattle.reading.proofs.Whole.{read_end, read_refused, read_table}
 use Rattle.reading.specs.Told.{read_into}
 use Rattle.grammar.specs.Reading.{read}
 use borrow.Author.Tests.{eq-eqb, ne_eqb, le-leb, lt-leb}
@@ -20,11 +20,11 @@ returns-then-text-start c = rw (eq-eqb _ _ c.if-area-ne-AREA.false, le-leb _ _ c
 
 pub returns-then-text-i : goal.returns-then-text-i
 unfolding read_into read
-returns-then-text-i c = read-end c.args.text.now c.args.start _ c.if-area-ne-AREA.false c.if-text-gt-TEXT.false c.if-text-start.false c.skip_from-i.result c.skip_from-i.ensures c.if-text-i.true
+returns-then-text-i c = read_end c.args.text.now c.args.start _ c.if-area-ne-AREA.false c.if-text-gt-TEXT.false c.if-text-start.false c.skip_from-i.result c.skip_from-i.ensures c.if-text-i.true
 
 pub returns-in_default : goal.returns-in_default
 unfolding read_into read
-returns-in_default c = read-refused c.args.text.now c.args.start _ c.if-area-ne-AREA.false c.if-text-gt-TEXT.false c.if-text-start.false c.skip_from-i.result c.skip_from-i.ensures c.if-text-i.false _ c.read_primitive-s.result c.read_primitive-s.ensures _ _ c.in_default.is c.refusal.result c.refusal.ensures
+returns-in_default c = read_refused c.args.text.now c.args.start _ c.if-area-ne-AREA.false c.if-text-gt-TEXT.false c.if-text-start.false c.skip_from-i.result c.skip_from-i.ensures c.if-text-i.false _ c.read_primitive-s.result c.read_primitive-s.ensures _ _ c.in_default.is c.refusal.result c.refusal.ensures
 
 pub returns : goal.returns
 unfolding read_into read

@@ -1,4 +1,4 @@
-use Rattle.rows.proofs.Columns.{column-refused, column-more, columns_read}
+use Rattle.rows.proofs.Columns.{column_refused, column_more, columns_read}
 use Rattle.grammar.proofs.Behind.{behind, behind_none}
 use Rattle.grammar.specs.Rows.{columns}
 use Rattle.table.specs.Places.{inputs_at}

@@ -1,4 +1,4 @@
-use Rattle.rows.proofs.Drawing.{Going, going_none, going_inputs, end_refused, end-early, end-drawn, row-refused, row_apart, row_more, full-refused, full-drawn}
+use Rattle.rows.proofs.Drawing.{Going, going_none, going_inputs, end_refused, end_early, end_drawn, row_refused, row_apart, row_more, full_refused, full_drawn}
 use Rattle.table.specs.Area.{decode}
 use Rattle.base.specs.Limits.{row_limit}
 use lib.ListN.{length, drop}

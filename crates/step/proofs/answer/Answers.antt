@@ -1,7 +1,5 @@
-use native.Mathlib.Omega.{arith}
 use Rattle.step.specs.Step.{answer_of, answer_or}
 use borrow.Author.Tests.{le-ltb, lt-ltb}
-use borrow.Author.Rules.{rules}
 use Rattle.step.proofs.answer.Goals as goal
 
 pub returns-then-level-m : goal.returns-then-level-m

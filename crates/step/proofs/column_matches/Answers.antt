@@ -1,5 +1,4 @@
 use Rattle.table.specs.Match.{field_of}
-use borrow.Author.Rules.{rules}
 use Rattle.step.proofs.column_matches.Goals as goal
 
 pub returns : goal.returns

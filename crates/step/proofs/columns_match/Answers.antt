@@ -1,24 +1,19 @@
-use Prim.Native.Nat.{ℕ, ◌≤◌, ◌-◌}
 use mathlib.Core.Path.{◌≡◌, sym, ◌∙◌}
-use mathlib.Core.Bool.{true}
 use native.Mathlib.Omega.{arith}
 use borrow.Author.Rules.{rules}
-use Rattle.base.specs.Search.{every}
-use Rattle.base.proofs.Search.{every-none, every_more, every-fails}
+use Rattle.base.proofs.Search.{every_none, every_more, every_fails}
 use borrow.Author.Tests.{not-true, not-false}
 use Rattle.table.specs.Area.{decode}
-use Rattle.table.specs.Table.{row_at, symbol_at}
-use Rattle.symbol.specs.Match.{match_field}
-use Rattle.table.specs.Match.{field_of, columns_match}
+use Rattle.table.specs.Match.{columns_match}
 use Rattle.step.proofs.columns_match.Goals as goal
 
 pub loop-k-init : goal.loop-k-init
 unfolding columns_match
-loop-k-init c = (search rules, every-none _)
+loop-k-init c = (search rules, every_none _)
 
 pub returns-then-not-column_matches : goal.returns-then-not-column_matches
 unfolding columns_match
-returns-then-not-column_matches c = sym (every-fails _ _ c.loop-k.k (omega arith) (sym c.column_matches.ensures ∙ not-true _ c.if-not-column_matches.true-raw))
+returns-then-not-column_matches c = sym (every_fails _ _ c.loop-k.k (omega arith) (sym c.column_matches.ensures ∙ not-true _ c.if-not-column_matches.true-raw))
 
 pub loop-k-preserved : goal.loop-k-preserved
 unfolding columns_match

@@ -1,15 +1,11 @@
 use Prim.Native.Nat.{ℕ, ◌≤◌, ◌-◌}
-use mathlib.Core.Path.{◌≡◌, sym, ◌∙◌}
+use mathlib.Core.Path.{◌≡◌}
 use mathlib.Core.Bool.{true}
-use native.Mathlib.Omega.{arith}
-use borrow.Author.Rules.{rules}
 use Rattle.base.specs.Search.{every}
-use Rattle.base.proofs.Search.{every-none, every_more, every-fails}
-use borrow.Author.Tests.{not-true, not-false}
 use Rattle.table.specs.Area.{decode}
 use Rattle.table.specs.Table.{row_at, symbol_at}
 use Rattle.symbol.specs.Match.{match_field}
-use Rattle.table.specs.Match.{field_of, columns_match}
+use Rattle.table.specs.Match.{field_of}
 use Rattle.step.proofs.columns_match.Given as goal
 
 abbrev pub invariant-loop-k : goal.invariant-loop-k

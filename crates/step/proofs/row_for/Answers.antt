@@ -1,15 +1,11 @@
-use Prim.Native.Nat.{ℕ, ◌<◌, ◌≤◌, ◌-◌}
 use mathlib.Core.Path.{◌≡◌, sym, ◌∙◌}
-use mathlib.Core.Bool.{false}
 use native.Mathlib.Omega.{arith}
 use borrow.Author.Rules.{rules}
 use Rattle.table.specs.Area.{decode}
-use Rattle.table.specs.Table.{row_at}
 use lib.ListN.{length}
 use borrow.Author.Count.{below_none, below_more}
-use Rattle.table.specs.Match.{row_matches}
 use Rattle.step.specs.Step.{row_for}
-use Rattle.base.proofs.Search.{first_found, first-none}
+use Rattle.base.proofs.Search.{first_found, first_none}
 use Rattle.step.proofs.row_for.Goals as goal
 
 pub loop-i-init : goal.loop-i-init
@@ -26,4 +22,4 @@ loop-i-preserved c = (omega arith, below_more _ _ c.loop-i.invariant.1 (sym c.ro
 
 pub returns : goal.returns
 unfolding row_for
-returns c = let e : c.loop-i.i ≡ length (decode c.args.a.now).rows = omega arith in rw e (sym (first-none _ _ (rw e at c.loop-i.invariant.1)))
+returns c = let e : c.loop-i.i ≡ length (decode c.args.a.now).rows = omega arith in rw e (sym (first_none _ _ (rw e at c.loop-i.invariant.1)))

@@ -1,15 +1,9 @@
 use Prim.Native.Nat.{ℕ, ◌<◌, ◌≤◌, ◌-◌}
-use mathlib.Core.Path.{◌≡◌, sym, ◌∙◌}
+use mathlib.Core.Path.{◌≡◌}
 use mathlib.Core.Bool.{false}
-use native.Mathlib.Omega.{arith}
-use borrow.Author.Rules.{rules}
 use Rattle.table.specs.Area.{decode}
 use Rattle.table.specs.Table.{row_at}
-use lib.ListN.{length}
-use borrow.Author.Count.{below_none, below_more}
 use Rattle.table.specs.Match.{row_matches}
-use Rattle.step.specs.Step.{row_for}
-use Rattle.base.proofs.Search.{first_found, first-none}
 use Rattle.step.proofs.row_for.Given as goal
 
 abbrev pub invariant-loop-i : goal.invariant-loop-i

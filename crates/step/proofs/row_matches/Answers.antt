@@ -1,5 +1,4 @@
 use Rattle.table.specs.Match.{row_matches}
-use borrow.Author.Rules.{rules}
 use Rattle.step.proofs.row_matches.Goals as goal
 
 pub returns : goal.returns

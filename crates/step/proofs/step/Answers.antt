@@ -1,6 +1,4 @@
-use mathlib.Core.Path.{◌≡◌, sym, ◌∙◌}
-use native.Mathlib.Omega.{arith}
-use borrow.Author.Rules.{rules}
+use mathlib.Core.Path.{sym, ◌∙◌}
 use Rattle.step.specs.Step.{step_of}
 use Rattle.step.proofs.Bridge.{step_none}
 use Rattle.step.proofs.step.Goals as goal

@@ -1,6 +1,5 @@
 use mathlib.Core.Path.{◌∙◌}
 use native.Mathlib.Omega.{arith}
-use borrow.Author.Rules.{rules}
 use Rattle.step.proofs.Bridge.{at_code, at_none}
 use Rattle.step.proofs.value_of.Goals as goal
 

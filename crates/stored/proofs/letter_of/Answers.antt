@@ -1,6 +1,4 @@
 use Rattle.stored.specs.Stored.{letter_of}
-use borrow.Author.Tests.{ne_eqb}
-use borrow.Author.Rules.{rules}
 use Rattle.stored.proofs.letter_of.Goals as goal
 
 pub returns-in-114 : goal.returns-in-114

@@ -1,5 +1,4 @@
 use Rattle.stored.specs.Stored.{level_byte}
-use borrow.Author.Rules.{rules}
 use Rattle.stored.proofs.level_byte.Goals as goal
 
 pub returns-in-Zero : goal.returns-in-Zero

@@ -1,5 +1,4 @@
 use Rattle.stored.specs.Stored.{level_of}
-use borrow.Author.Tests.{ne_eqb}
 use Rattle.stored.proofs.level_of.Goals as goal
 
 pub returns-in-48 : goal.returns-in-48

@@ -1,5 +1,4 @@
 use Rattle.stored.specs.Stored.{output_byte}
-use borrow.Author.Rules.{rules}
 use Rattle.stored.proofs.output_byte.Goals as goal
 
 pub returns-in-Out0 : goal.returns-in-Out0

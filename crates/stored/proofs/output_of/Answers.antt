@@ -1,5 +1,4 @@
 use Rattle.stored.specs.Stored.{output_of}
-use borrow.Author.Tests.{ne_eqb}
 use Rattle.stored.proofs.output_of.Goals as goal
 
 pub returns-in-48 : goal.returns-in-48

@@ -1,5 +1,4 @@
 use Rattle.stored.specs.Stored.{second_byte}
-use borrow.Author.Rules.{rules}
 use Rattle.stored.proofs.second_byte.Goals as goal
 
 pub returns-in-Held : goal.returns-in-Held

@@ -1,6 +1,4 @@
 use Rattle.stored.specs.Stored.{stores_symbol, stores_level, symbol_of, letter_of, symbol_byte, second_byte}
-use borrow.Author.Tests.{ne_eqb}
-use borrow.Author.Rules.{rules}
 use Rattle.stored.proofs.stores_letter.Goals as goal
 
 pub returns-in-114 : goal.returns-in-114

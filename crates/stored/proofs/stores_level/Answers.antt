@@ -1,5 +1,4 @@
 use Rattle.stored.specs.Stored.{stores_level, level_of, level_byte}
-use borrow.Author.Tests.{ne_eqb}
 use Rattle.stored.proofs.stores_level.Goals as goal
 
 pub returns-in-48 : goal.returns-in-48

@@ -1,5 +1,4 @@
 use Rattle.stored.specs.Stored.{stores_output, output_of, output_byte}
-use borrow.Author.Tests.{ne_eqb}
 use Rattle.stored.proofs.stores_output.Goals as goal
 
 pub returns-in-48 : goal.returns-in-48

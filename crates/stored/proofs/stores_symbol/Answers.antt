@@ -1,6 +1,5 @@
 use Rattle.stored.specs.Stored.{stores_symbol, stores_level, symbol_of, symbol_byte, second_byte}
 use borrow.Author.Tests.{ne_eqb}
-use borrow.Author.Rules.{rules}
 use Rattle.stored.proofs.stores_symbol.Goals as goal
 
 pub returns-then-c-eq0 : goal.returns-then-c-eq0

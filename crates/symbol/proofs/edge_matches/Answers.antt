@@ -1,5 +1,4 @@
 use Rattle.symbol.specs.Match.{match_edge}
-use borrow.Author.Rules.{rules}
 use Rattle.symbol.proofs.edge_matches.Goals as goal
 
 pub returns : goal.returns

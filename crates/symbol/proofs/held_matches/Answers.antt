@@ -1,5 +1,4 @@
 use Rattle.symbol.specs.Match.{match_held}
-use borrow.Author.Rules.{rules}
 use Rattle.symbol.proofs.held_matches.Goals as goal
 
 pub returns-in-Held : goal.returns-in-Held

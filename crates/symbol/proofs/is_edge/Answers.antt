@@ -1,5 +1,4 @@
 use Rattle.symbol.specs.Match.{is_edge}
-use borrow.Author.Rules.{rules}
 use Rattle.symbol.proofs.is_edge.Goals as goal
 
 pub returns-in-Held : goal.returns-in-Held

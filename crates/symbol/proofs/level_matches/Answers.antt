@@ -1,5 +1,4 @@
 use Rattle.symbol.specs.Match.{match_level}
-use borrow.Author.Rules.{rules}
 use Rattle.symbol.proofs.level_matches.Goals as goal
 
 pub returns-in-Zero : goal.returns-in-Zero

@@ -1,5 +1,4 @@
 use Rattle.symbol.specs.Match.{match_field}
-use borrow.Author.Rules.{rules}
 use Rattle.symbol.proofs.matches.Goals as goal
 
 pub returns-then-f : goal.returns-then-f

@@ -1,5 +1,4 @@
 use Rattle.symbol.specs.Match.{result_of}
-use borrow.Author.Rules.{rules}
 use Rattle.symbol.proofs.result_of.Goals as goal
 
 pub returns-in-Out0 : goal.returns-in-Out0

@@ -6,7 +6,6 @@ use mathlib.Core.Path.{◌≡◌}
 use mathlib.Core.Path.{sym, ◌∙◌}
 use Rattle.table.specs.Area.{decode}
 use native.Mathlib.Omega.{arith}
-use borrow.Author.Rules.{rules}
 use Rattle.table.proofs.name_in.Goals as goal
 
 pub returns-then-a-le-NAME_AT : goal.returns-then-a-le-NAME_AT

@@ -1,5 +1,4 @@
 use Rattle.table.specs.Area.{or_x}
-use borrow.Author.Rules.{rules}
 use Rattle.table.proofs.or_x.Goals as goal
 
 pub returns-in-Value : goal.returns-in-Value

@@ -5,7 +5,6 @@ use mathlib.Core.Path.{ap}
 use mathlib.Core.Path.{sym}
 use Rattle.table.specs.Area.{decode}
 use native.Mathlib.Omega.{arith}
-use borrow.Author.Rules.{rules}
 use Rattle.table.proofs.output_in.Goals as goal
 
 pub returns-then-rows-i : goal.returns-then-rows-i

@@ -1,7 +1,6 @@
 use Rattle.table.proofs.Encoding.{decode_count}
 use mathlib.Core.Path.{sym, ◌∙◌}
 use Rattle.table.specs.Area.{decode}
-use borrow.Author.Rules.{rules}
 use Rattle.table.proofs.rows.Goals as goal
 
 pub returns : goal.returns

@@ -1,5 +1,4 @@
 use Rattle.table.specs.Area.{decode}
-use borrow.Author.Rules.{rules}
 use Rattle.table.proofs.start.Goals as goal
 
 pub returns : goal.returns

@@ -2,7 +2,6 @@ use Rattle.table.proofs.Encoding.{decode_count, decode_no_row, decode_state}
 use Rattle.table.specs.Places.{count_at}
 use Rattle.stored.specs.Stored.{level_of}
 use native.Mathlib.Omega.{arith}
-use borrow.Author.Rules.{rules}
 use Rattle.table.proofs.state_offers.Goals as goal
 
 pub returns-then-rows-i : goal.returns-then-rows-i

@@ -3,7 +3,6 @@ use Rattle.table.specs.Places.{count_at, inputs_at}
 use mathlib.Core.Path.{sym}
 use Rattle.table.specs.Area.{symbol_in}
 use native.Mathlib.Omega.{arith}
-use borrow.Author.Rules.{rules}
 use Rattle.table.proofs.symbol_in.Goals as goal
 
 pub returns-then-rows-i : goal.returns-then-rows-i

@@ -1,6 +1,5 @@
 use Rattle.table.specs.Area.{symbol_part}
 use borrow.Author.Tests.{eq-eqb, ne_eqb}
-use borrow.Author.Rules.{rules}
 use Rattle.table.proofs.symbol_part.Goals as goal
 
 pub returns-then-m-eq0 : goal.returns-then-m-eq0

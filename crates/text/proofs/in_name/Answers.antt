@@ -1,7 +1,6 @@
 use Prim.Native.Nat.{ℕ}
 use mathlib.Core.Path.{◌∙◌, ap}
 use lib.Dec.{ltb}
-use borrow.Author.Rules.{rules}
 use Rattle.text.specs.Bytes.{class_of, num_of, in_name}
 use Rattle.text.proofs.Classes.{by_bytes}
 use Rattle.text.proofs.in_name.Goals as goal

@@ -1,7 +1,6 @@
 use Prim.Native.Nat.{ℕ}
 use mathlib.Core.Path.{◌∙◌, ap}
 use lib.Dec.{eqb}
-use borrow.Author.Rules.{rules}
 use Rattle.text.specs.Bytes.{class_of, num_of, is_blank}
 use Rattle.text.proofs.Classes.{by_bytes}
 use Rattle.text.proofs.is_blank.Goals as goal

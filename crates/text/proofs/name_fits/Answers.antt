@@ -1,5 +1,4 @@
 use Rattle.text.specs.Words.{name_fits}
-use borrow.Author.Rules.{rules}
 use Rattle.text.proofs.name_fits.Goals as goal
 
 pub returns-then-is_name : goal.returns-then-is_name

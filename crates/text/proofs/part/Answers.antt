@@ -1,14 +1,12 @@
-use mathlib.Core.Path.{◌≡◌, sym}
-use lib.ListN.{length}
-use borrow.Author.Rules.{rules}
-use Rattle.text.proofs.Wordlaws.{part_none, part-past, part-long}
+use mathlib.Core.Path.{sym}
+use Rattle.text.proofs.Wordlaws.{part_none, part_past, part_long}
 use Rattle.text.proofs.part.Goals as goal
 
 pub returns-then-e-a : goal.returns-then-e-a
 returns-then-e-a c = sym (part_none _ _ _ c.if-e-a.true)
 
 pub returns-then-text-a : goal.returns-then-text-a
-returns-then-text-a c = sym (part-past _ _ _ c.if-text-a.true)
+returns-then-text-a c = sym (part_past _ _ _ c.if-text-a.true)
 
 pub returns-then-text-e : goal.returns-then-text-e
-returns-then-text-e c = sym (part-long _ _ _ c.if-text-e.true)
+returns-then-text-e c = sym (part_long _ _ _ c.if-text-e.true)

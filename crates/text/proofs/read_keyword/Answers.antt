@@ -1,5 +1,4 @@
-use mathlib.Core.Path.{◌≡◌, sym, ◌∙◌}
-use borrow.Author.Rules.{rules}
+use mathlib.Core.Path.{sym, ◌∙◌}
 use Rattle.text.specs.Reader.{word, keyword, ◌>>=◌}
 use Rattle.text.proofs.Wordlaws.{same_eq}
 use Rattle.text.proofs.read_keyword.Goals as goal

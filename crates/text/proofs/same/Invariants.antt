@@ -1,10 +1,7 @@
 use Rattle.std.proofs.Common.{◌≡◌}
 use Prim.Native.Nat.{◌-◌}
-use native.Mathlib.Omega.{arith}
 use lib.ListN.{length, drop}
-use borrow.Author.Tests.{eq-eqb, ne_eqb}
 use Rattle.text.specs.Words.{same}
-use Rattle.text.proofs.Wordlaws.{same-cons, same-long, same_end}
 use Rattle.text.proofs.same.Given as goal
 
 abbrev pub invariant-loop-i : goal.invariant-loop-i

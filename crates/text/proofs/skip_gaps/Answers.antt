@@ -1,10 +1,7 @@
-use mathlib.Core.Path.{◌≡◌, refl, sym, ◌∙◌}
-use Prim.Native.Nat.{◌-◌}
-use lib.ListN.{length, drop, length-drop}
-use Rattle.text.specs.Reader.{skip}
-use Rattle.text.proofs.Blanklaws.{gap_le, skip_stop, skip-on, skip-nil}
+use mathlib.Core.Path.{refl, sym, ◌∙◌}
+use lib.ListN.{drop, length-drop}
+use Rattle.text.proofs.Blanklaws.{gap_le, skip_stop, skip_on, skip_nil}
 use native.Mathlib.Omega.{arith}
-use borrow.Author.Rules.{rules}
 use Rattle.text.proofs.skip_gaps.Goals as goal
 
 pub loop-i-init : goal.loop-i-init
@@ -20,7 +17,7 @@ pub loop-i-smaller : goal.loop-i-smaller
 loop-i-smaller c = let l = c.loop-i in omega (arith, c.gap_at-g.ensures, gap_le (drop l.i c.args.text.now), length-drop l.i c.args.text.now)
 
 pub loop-i-preserved : goal.loop-i-preserved
-loop-i-preserved c = let l = c.loop-i in l.invariant ∙ skip-on c.args.text.now l.i c.loop-i-test.true c.gap_at-g.result (sym c.gap_at-g.ensures) c.if-g-eq0.false
+loop-i-preserved c = let l = c.loop-i in l.invariant ∙ skip_on c.args.text.now l.i c.loop-i-test.true c.gap_at-g.result (sym c.gap_at-g.ensures) c.if-g-eq0.false
 
 pub returns : goal.returns
-returns c = let l = c.loop-i in l.invariant ∙ skip-nil c.args.text.now l.i c.loop-i-test.false
+returns c = let l = c.loop-i in l.invariant ∙ skip_nil c.args.text.now l.i c.loop-i-test.false

@@ -1,10 +1,7 @@
-use mathlib.Core.Path.{◌≡◌, refl, sym, ◌∙◌}
+use mathlib.Core.Path.{◌≡◌}
 use Prim.Native.Nat.{◌-◌}
-use lib.ListN.{length, drop, length-drop}
+use lib.ListN.{length, drop}
 use Rattle.text.specs.Reader.{skip}
-use Rattle.text.proofs.Blanklaws.{gap_le, skip_stop, skip-on, skip-nil}
-use native.Mathlib.Omega.{arith}
-use borrow.Author.Rules.{rules}
 use Rattle.text.proofs.skip_gaps.Given as goal
 
 abbrev pub invariant-loop-i : goal.invariant-loop-i

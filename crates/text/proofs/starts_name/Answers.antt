@@ -3,7 +3,6 @@ use mathlib.Core.Path.{◌≡◌}
 use mathlib.Core.Bool.{◌&&◌}
 use lib.Dec.{leb, ltb}
 use borrow.Author.Tests.{lt-leb, le-leb}
-use borrow.Author.Rules.{rules}
 use Rattle.text.specs.Bytes.{class_of, num_of, starts}
 use Rattle.text.proofs.Classes.{by_bytes}
 use Rattle.text.proofs.starts_name.Goals as goal

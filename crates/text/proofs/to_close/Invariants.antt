@@ -1,10 +1,8 @@
-use mathlib.Core.Path.{◌≡◌, sym}
+use mathlib.Core.Path.{◌≡◌}
 use Prim.Native.Nat.{◌+◌, ◌-◌}
-use native.Mathlib.Omega.{arith}
 use lib.ListN.{length, drop}
-use borrow.Author.Rules.{rules}
 use Rattle.text.specs.Blanks.{to_close}
-use Rattle.text.proofs.Blanklaws.{adds, adds_zero, adds_more, close-cons, close-nil}
+use Rattle.text.proofs.Blanklaws.{adds}
 use Rattle.text.proofs.to_close.Given as goal
 
 abbrev pub invariant-loop-i : goal.invariant-loop-i

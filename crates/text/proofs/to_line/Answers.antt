@@ -1,10 +1,6 @@
-use mathlib.Core.Path.{◌≡◌}
-use Prim.Native.Nat.{◌+◌, ◌-◌}
 use native.Mathlib.Omega.{arith}
-use lib.ListN.{length, drop}
 use borrow.Author.Tests.{ne_eqb}
-use Rattle.text.specs.Blanks.{to_line}
-use Rattle.text.proofs.Blanklaws.{line-cons, line-nil}
+use Rattle.text.proofs.Blanklaws.{line_cons, line_nil}
 use Rattle.text.proofs.to_line.Goals as goal
 
 pub loop-i-init : goal.loop-i-init
@@ -13,12 +9,12 @@ loop-i-init c = (omega arith, omega arith)
 pub returns-then-text-i-eq10 : goal.returns-then-text-i-eq10
 returns-then-text-i-eq10 c = let l = c.loop-i in
     let t = c.args.text.now in
-    omega (arith, l.invariant.0, rw c.if-text-i-eq10.true at (line-cons t l.i c.loop-i-test.true))
+    omega (arith, l.invariant.0, rw c.if-text-i-eq10.true at (line_cons t l.i c.loop-i-test.true))
 
 pub loop-i-preserved : goal.loop-i-preserved
 loop-i-preserved c = let l = c.loop-i in
     let t = c.args.text.now in
-    omega (arith, l.invariant.0, rw (ne_eqb _ _ c.if-text-i-eq10.false) at (line-cons t l.i c.loop-i-test.true))
+    omega (arith, l.invariant.0, rw (ne_eqb _ _ c.if-text-i-eq10.false) at (line_cons t l.i c.loop-i-test.true))
 
 pub returns : goal.returns
-returns c = let l = c.loop-i in omega (arith, l.invariant.0, line-nil c.args.text.now l.i c.loop-i-test.false)
+returns c = let l = c.loop-i in omega (arith, l.invariant.0, line_nil c.args.text.now l.i c.loop-i-test.false)

@@ -1,10 +1,7 @@
 use mathlib.Core.Path.{◌≡◌}
 use Prim.Native.Nat.{◌+◌, ◌-◌}
-use native.Mathlib.Omega.{arith}
 use lib.ListN.{length, drop}
-use borrow.Author.Tests.{ne_eqb}
 use Rattle.text.specs.Blanks.{to_line}
-use Rattle.text.proofs.Blanklaws.{line-cons, line-nil}
 use Rattle.text.proofs.to_line.Given as goal
 
 abbrev pub invariant-loop-i : goal.invariant-loop-i

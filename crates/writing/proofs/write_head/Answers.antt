@@ -4,7 +4,7 @@ use native.Mathlib.Omega.{arith}
 use borrow.Author.Rules.{rules}
 use borrow.Author.Tests.{not-true, not-false}
 use Rattle.base.proofs.Patched.{Patched}
-use Rattle.base.proofs.Listed.{Filled, filled-start, filled_more}
+use Rattle.base.proofs.Listed.{Filled, filled_start, filled_more}
 use Rattle.table.specs.Places.{count_at, area_size}
 use Rattle.table.specs.Area.{area_byte}
 use Rattle.writing.specs.Written.{head_of, head_written}
@@ -17,7 +17,7 @@ returns-then-not-head_fits c = rw (← c.head_fits.ensures, not-true c.head_fits
 
 pub loop-p-init : goal.loop-p-init
 loop-p-init c =
-    (omega arith, filled-start _ area_size _ (fits_of _ _ _ (sym c.head_fits.ensures ∙ not-false _ c.if-not-head_fits.false-raw)).long)
+    (omega arith, filled_start _ area_size _ (fits_of _ _ _ (sym c.head_fits.ensures ∙ not-false _ c.if-not-head_fits.false-raw)).long)
 
 pub head_byte-requires : goal.head_byte-requires
 unfolding head_written head_of

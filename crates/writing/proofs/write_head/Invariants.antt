@@ -4,7 +4,7 @@ use native.Mathlib.Omega.{arith}
 use borrow.Author.Rules.{rules}
 use borrow.Author.Tests.{not-true, not-false}
 use Rattle.base.proofs.Patched.{Patched}
-use Rattle.base.proofs.Listed.{Filled, filled-start, filled_more}
+use Rattle.base.proofs.Listed.{Filled, filled_start, filled_more}
 use Rattle.table.specs.Places.{count_at, area_size}
 use Rattle.table.specs.Area.{area_byte}
 use Rattle.writing.specs.Written.{head_of, head_written}

@@ -4,13 +4,13 @@ use native.Mathlib.Omega.{arith}
 use borrow.Author.Rules.{rules}
 use borrow.Author.Tests.{not-true, not-false}
 use lib.ListN.{length-set}
-use Rattle.base.proofs.Patched.{Patched, patched-none, patched-more}
+use Rattle.base.proofs.Patched.{Patched, patched_none, patched_more}
 use Rattle.base.specs.Limits.{input_limit}
 use Rattle.table.specs.Places.{row_size, count_at}
 use Rattle.table.specs.Area.{row_byte}
 use Rattle.writing.specs.Written.{row_from, last_byte, row_written}
 use Rattle.writing.proofs.Headlaws.{Room, room_of, patched_from, patched_next}
-use Rattle.writing.proofs.Rowlaws.{from-part, row-patched, row-left}
+use Rattle.writing.proofs.Rowlaws.{from_part, row_patched, row_left}
 use Rattle.writing.proofs.write_row.Goals as goal
 
 pub returns-then-not-has_room : goal.returns-then-not-has_room
@@ -35,7 +35,7 @@ overflow_add-at c = omega (arith, (room_of _ (sym c.has_room.ensures ∙ not-fal
 
 pub loop-k-init : goal.loop-k-init
 unfolding row_written
-loop-k-init c = (omega arith, patched-none _ _ _)
+loop-k-init c = (omega arith, patched_none _ _ _)
 
 pub overflow_mul-n : goal.overflow_mul-n
 unfolding row_written
@@ -68,8 +68,8 @@ loop-k-preserved c =
     let a = c.args in
     let few : c.wide-n.result ≤ input_limit = omega (arith, r.inputs, c.wide-n.ensures) in (
     omega arith,
-    patched-more _ _ _ _ _ _ (omega (arith, r.rows, r.long, c.wide.ensures))
-    (c.symbol_part.ensures ∙ sym (from-part c.wide-n.result a.symbols a.state a.output (omega arith) c.loop-k.k c.loop-k-test.true))
+    patched_more _ _ _ _ _ _ (omega (arith, r.rows, r.long, c.wide.ensures))
+    (c.symbol_part.ensures ∙ sym (from_part c.wide-n.result a.symbols a.state a.output (omega arith) c.loop-k.k c.loop-k-test.true))
     c.loop-k.invariant.1,
     )
 
@@ -118,5 +118,5 @@ returns c =
     let e : c.loop-k-2.k ≡ row_size = omega arith in
     let few : c.wide-n.result ≤ input_limit = omega (arith, r.inputs, c.wide-n.ensures) in
     rw (← c.has_room.ensures, not-false c.has_room.result c.if-not-has_room.false-raw)
-    (row-left _ _ _ r.long r.rows (rw (c.wide-n.ensures, c.wide.ensures) at
-    (row-patched c.wide-n.result a.symbols a.state a.output (omega arith) _ c.loop-k.a _ _ few (rw s at c.loop-k.invariant.1) (rw (s, e) at c.loop-k-2.invariant.2))))
+    (row_left _ _ _ r.long r.rows (rw (c.wide-n.ensures, c.wide.ensures) at
+    (row_patched c.wide-n.result a.symbols a.state a.output (omega arith) _ c.loop-k.a _ _ few (rw s at c.loop-k.invariant.1) (rw (s, e) at c.loop-k-2.invariant.2))))
