@@ -60,6 +60,7 @@ fn place_in(s: &[u8], k: usize) -> Ternary
 }
 
 // The vector that the bytes say, with 0 in the places past its end.
+#[tactic(auto, unfolding(crate::specs::Called::padded))]
 fn vector_in(s: &[u8]) -> [Ternary; base::INPUTS]
     ensures { result ≡ padded (vector_in s.now) }
 {

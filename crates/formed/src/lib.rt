@@ -45,6 +45,7 @@ pub fn contradicts(a: &[u8], i: usize, j: usize) -> bool
 }
 
 // Row j contradicts none before it.
+#[tactic(auto, unfolding(crate::specs::Tests::row_agrees))]
 pub fn row_agrees(a: &[u8], j: usize) -> bool
     ensures { result ≡ row_agrees (decode a.now) j }
 {

@@ -63,6 +63,7 @@ fn all_declared(flags: [bool; PORTS], n: usize) -> bool
 }
 
 // The declarations up to and with `table`.
+#[tactic(auto, unfolding(text::specs::Reader::check))]
 fn read_declarations(
     text: &[u8],
     at: usize,
@@ -152,6 +153,7 @@ fn read_declarations(
 }
 
 // From `(` to `table`.
+#[tactic(auto, unfolding(grammar::specs::Header::declared, crate::specs::Heads::head, grammar::specs::Header::port_list))]
 pub fn read_head(text: &[u8], at: usize) -> HeadStep
     ensures { head at (drop at text.now) ≡ means text.now (λ h. h) result }
 {

@@ -70,8 +70,8 @@ module _ (t starts ends : List ℕ) where
     output-raise = rw (ports-cons n) (output_raised (port_at t starts ends 0) (drop 1 (ports_of t starts ends (n + 1))) fs alone long)
 
     -- no port is left
-    pub all_up : none_left (down (ports_of t starts ends (n + 1)) fs) ≡ all_up (n + 1) fs
-    all_up = none_left_lem (ports_of t starts ends (n + 1)) fs ∙ ap (λ (m : ℕ). all_up m fs) (ports-length (n + 1))
+    pub all_up_lem : none_left (down (ports_of t starts ends (n + 1)) fs) ≡ all_up (n + 1) fs
+    all_up_lem = none_left_lem (ports_of t starts ends (n + 1)) fs ∙ ap (λ (m : ℕ). all_up m fs) (ports-length (n + 1))
 
   module _ (b f n : ℕ) (ls : length starts ≡ input_limit + 1) (le : length ends ≡ input_limit + 1) (h : n < input_limit) where
     abbrev starts' : List ℕ

@@ -18,7 +18,7 @@ use Rattle.table.specs.Area.{encode, decode}
 use Rattle.table.proofs.Encoding.{decode-encode, decode_inputs}
 use Rattle.formed.specs.Tests.{contradict, row_agrees}
 use Rattle.writing.specs.Written.{head_of, row_written}
-use Rattle.writing.proofs.Rowlaws.{row_written}
+use Rattle.writing.proofs.Rowlaws.{row_written_lem}
 use Rattle.symbol.specs.Match.{is_edge}
 use Rattle.text.specs.Bytes.{bytes}
 use Rattle.text.specs.Places.{meant}
@@ -105,7 +105,7 @@ module _ (h : Table) (before : List Row) (x : Row) (s : Shaped (with_rows h befo
 
   pub written-more : row_written (encode (with_rows h before)) x ≡ encode (with_rows h (before ++ (x ∷ [])))
   unfolding with_row
-  written-more = row_written (with_rows h before) x s few
+  written-more = row_written_lem (with_rows h before) x s few
 
   -- the test of the area is the grammar's
   pub agrees-is : row_agrees (decode (encode (with_rows h (before ++ (x ∷ []))))) (length before) ≡ agrees h.inputs before x

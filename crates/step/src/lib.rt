@@ -49,6 +49,7 @@ fn with_value(v: [Ternary; base::INPUTS], j: usize, y: Ternary) -> [Ternary; bas
     w
 }
 
+#[tactic(auto, unfolding(table::specs::Match::field_of))]
 fn column_matches(
     a: &[u8],
     v: [Ternary; base::INPUTS],
@@ -71,6 +72,7 @@ fn column_matches(
     symbol::matches(f)
 }
 
+#[tactic(auto, unfolding(table::specs::Match::columns_match))]
 fn columns_match(a: &[u8], v: [Ternary; base::INPUTS], j: usize, from: Ternary, i: usize) -> bool
     ensures { result ≡ columns_match (decode a.now).inputs (row_at (decode a.now) i) v j from }
 {
@@ -85,6 +87,7 @@ fn columns_match(a: &[u8], v: [Ternary; base::INPUTS], j: usize, from: Ternary, 
     true
 }
 
+#[tactic(auto, unfolding(table::specs::Match::row_matches))]
 fn row_matches(
     a: &[u8],
     v: [Ternary; base::INPUTS],
@@ -98,6 +101,7 @@ fn row_matches(
     columns_match(a, v, j, from, i) & symbol::level_matches(table::state_in(a, i), old)
 }
 
+#[tactic(auto, unfolding(crate::specs::Step::row_for))]
 fn row_for(a: &[u8], v: [Ternary; base::INPUTS], j: usize, from: Ternary, old: Ternary) -> usize
     ensures { result ≡ row_for (decode a.now) v j from old }
 {
@@ -119,6 +123,7 @@ fn result_in(a: &[u8], i: usize, old: Ternary) -> Ternary
 }
 
 // Input j has changed from `from`; v has it at its current value and all others at their previous one.
+#[tactic(auto, unfolding(crate::specs::Step::answer_of, crate::specs::Step::answer_or))]
 fn answer(a: &[u8], v: [Ternary; base::INPUTS], j: usize, from: Ternary, old: Ternary) -> Ternary
     requires { 1 ≤ j }
     ensures { result ≡ answer_of (decode a.now) v j from old }
@@ -138,6 +143,7 @@ fn answer(a: &[u8], v: [Ternary; base::INPUTS], j: usize, from: Ternary, old: Te
 }
 
 // One step: input j is considered.
+#[tactic(auto, unfolding(crate::specs::Step::step_of))]
 fn step(
     a: &[u8],
     prev: [Ternary; base::INPUTS],

@@ -196,9 +196,9 @@ module _ (t : Table) (r : Row) where
         and (eq-eqb _ _ (encode_length t))
         (and (le-leb (get_or (encode t) inputs_at 0) input_limit (omega (arith, inputs-of t s, s.bounded.inputs))) (lt-ltb (get_or (encode t) count_at 0) row_limit (omega (arith, count_of t s))))
 
-    pub row_written : row_written (encode t) r ≡ encode (with_row t r)
+    pub row_written_lem : row_written (encode t) r ≡ encode (with_row t r)
     unfolding row_written encode
-    row_written =
+    row_written_lem =
         rw room-is
         (listed-is (added_byte (encode t) r) area_size (encode (with_row t r)) 0 (encode_length (with_row t r))
         (λ p g. byte-added p g ∙ sym (encode_at (with_row t r) p g)))

@@ -38,6 +38,7 @@ fn head_fits(a: &[u8], name: &[u8], inputs: usize) -> bool
 }
 
 // The whole area becomes a table without rows.
+#[tactic(auto, unfolding(crate::specs::Written::head_of, crate::specs::Written::head_written))]
 pub fn write_head(a: &mut [u8], name: &[u8], sequential: bool, inputs: usize, start: Ternary)
     ensures { a.new ≡ head_written a.old (head_of name.now sequential inputs start) }
 {
@@ -77,6 +78,7 @@ fn has_room(a: &[u8]) -> bool
 }
 
 // The table gets one row more, of as many of the symbols as it has inputs.
+#[tactic(auto, unfolding(crate::specs::Written::row_written))]
 pub fn write_row(a: &mut [u8], symbols: [Symbol; base::INPUTS], state: Level, output: Output)
     ensures { a.new ≡ row_written a.old (row_from (get_or a.old inputs_at 0) symbols state output) }
 {

@@ -11,4 +11,4 @@ pub returns-in-2 : goal.returns-in-2
 returns-in-2 c = weight_by _ _ 3 1 (omega (arith, c.in-2.is)) refl three
 
 pub returns-in_default : goal.returns-in_default
-returns-in_default c = weight_by _ _ 9 2 (omega (arith, c.in-1.rest.0.1, c.in-1.rest.1)) refl nine
+returns-in_default c = weight_by _ _ 9 2 (omega (arith, c.in_default.in_default-own.rest.0.1, c.in_default.in_default-own.rest.1)) refl nine

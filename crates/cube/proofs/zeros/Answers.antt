@@ -8,4 +8,4 @@ pub returns-in-3 : goal.returns-in-3
 returns-in-3 c = rw c.in-3.is zeros_three
 
 pub returns-in_default : goal.returns-in_default
-returns-in_default c = rw (last_weight c.requires c.in-1.rest.0.1 c.in-1.rest.1) zeros_nine
+returns-in_default c = rw (last_weight c.requires c.in_default.in_default-own.rest.0.1 c.in_default.in_default-own.rest.1) zeros_nine

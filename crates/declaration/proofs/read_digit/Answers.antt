@@ -27,4 +27,4 @@ returns-in-120 c = cases c.in-120.is (λ w. rw (byte-cons c.args.text.now c.args
 
 pub returns-in_default : goal.returns-in_default
 unfolding digit ◌>>=◌ value_of
-returns-in_default c = rw (byte-cons c.args.text.now c.args.at digit_byte c.if-text-at.false, ne_eqb _ _ c.in-48.rest.0.0.1, ne_eqb _ _ c.in-48.rest.0.1, ne_eqb _ _ (λ e. c.in-48.rest.1 (inl e)), ne_eqb _ _ (λ e. c.in-48.rest.1 (inr e)), c.fault_at-in_default.ensures)
+returns-in_default c = rw (byte-cons c.args.text.now c.args.at digit_byte c.if-text-at.false, ne_eqb _ _ c.in_default.in_default-own.rest.0.0.1, ne_eqb _ _ c.in_default.in_default-own.rest.0.1, ne_eqb _ _ (λ e. c.in_default.in_default-own.rest.1 (inl e)), ne_eqb _ _ (λ e. c.in_default.in_default-own.rest.1 (inr e)), c.fault_at-in_default.ensures)

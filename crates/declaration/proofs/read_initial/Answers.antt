@@ -32,6 +32,10 @@ pub returns-in_default-z : goal.returns-in_default-z
 unfolding initial ◌>>=◌ check
 returns-in_default-z c = λ left h. rw (not-false c.args.reg c.if-not-reg.false-raw, h, not-false c.args.none c.if-not-none.false-raw, c.read_name-w.ensures, c.in-At.is, ← c.part.ensures, ← c.same.ensures, not-false c.same.result c.if-not-same.false-raw, c.read_mark-s.ensures, c.in-At-s.is, c.skip_from.ensures, c.read_constant-v.ensures, c.in-At-v.is, c.read_mark-z.ensures, c.in_default-z.is)
 
+pub returns-in_default-b : goal.returns-in_default-b
+unfolding initial ◌>>=◌ check
+returns-in_default-b c = λ left h. rw (not-false c.args.reg c.if-not-reg.false-raw, h, not-false c.args.none c.if-not-none.false-raw, c.read_name-w.ensures, c.in-At.is, ← c.part.ensures, ← c.same.ensures, not-false c.same.result c.if-not-same.false-raw, c.read_mark-s.ensures, c.in-At-s.is, c.skip_from.ensures, c.read_constant-v.ensures, c.in-At-v.is, c.read_mark-z.ensures, c.in-At-z.is, c.read_keyword-b.ensures, c.in_default-b.is)
+
 pub returns : goal.returns
 unfolding initial ◌>>=◌ check
-returns c = λ left h. rw (not-false c.args.reg c.if-not-reg.false-raw, h, not-false c.args.none c.if-not-none.false-raw, c.read_name-w.ensures, c.in-At.is, ← c.part.ensures, ← c.same.ensures, not-false c.same.result c.if-not-same.false-raw, c.read_mark-s.ensures, c.in-At-s.is, c.skip_from.ensures, c.read_constant-v.ensures, c.in-At-v.is, c.read_mark-z.ensures, c.in-At-z.is, c.read_keyword-b.ensures, c.in_default-b.is)
+returns c = λ left h. rw (not-false c.args.reg c.if-not-reg.false-raw, h, not-false c.args.none c.if-not-none.false-raw, c.read_name-w.ensures, c.in-At.is, ← c.part.ensures, ← c.same.ensures, not-false c.same.result c.if-not-same.false-raw, c.read_mark-s.ensures, c.in-At-s.is, c.skip_from.ensures, c.read_constant-v.ensures, c.in-At-v.is, c.read_mark-z.ensures, c.in-At-z.is, c.read_keyword-b.ensures, c.in-At-b.is)

@@ -27,4 +27,4 @@ pub returns-in-6 : goal.returns-in-6
 returns-in-6 c = rw c.in-6.is
 
 pub returns-in_default : goal.returns-in_default
-returns-in_default c = trailer_past _ c.args.k (seven _ c.in-0.rest.0.0.0.0.0.0.1 c.in-0.rest.0.0.0.0.0.1 c.in-0.rest.0.0.0.0.1 c.in-0.rest.0.0.0.1 c.in-0.rest.0.0.1 c.in-0.rest.0.1 c.in-0.rest.1)
+returns-in_default c = trailer_past _ c.args.k (seven _ c.in_default.in_default-own.rest.0.0.0.0.0.0.1 c.in_default.in_default-own.rest.0.0.0.0.0.1 c.in_default.in_default-own.rest.0.0.0.0.1 c.in_default.in_default-own.rest.0.0.0.1 c.in_default.in_default-own.rest.0.0.1 c.in_default.in_default-own.rest.0.1 c.in_default.in_default-own.rest.1)

@@ -33,4 +33,4 @@ pub returns-in-7 : goal.returns-in-7
 returns-in-7 c = lone_is (witness_fields (drafted c.args.n c.args.w)) (byte_of c.args.w.second_output) _ c.args.m _ _ c.lone-in-7.ensures c.to_byte-in-7.ensures (rw c.in-7.is)
 
 pub returns-in_default : goal.returns-in_default
-returns-in_default c = byte_past (witness_fields (drafted c.args.n c.args.w)) c.args.m _ (eight _ c.in-0.rest.0.0.0.0.0.0.0.1 c.in-0.rest.0.0.0.0.0.0.1 c.in-0.rest.0.0.0.0.0.1 c.in-0.rest.0.0.0.0.1 c.in-0.rest.0.0.0.1 c.in-0.rest.0.0.1 c.in-0.rest.0.1 c.in-0.rest.1)
+returns-in_default c = byte_past (witness_fields (drafted c.args.n c.args.w)) c.args.m _ (eight _ c.in_default.in_default-own.rest.0.0.0.0.0.0.0.1 c.in_default.in_default-own.rest.0.0.0.0.0.0.1 c.in_default.in_default-own.rest.0.0.0.0.0.1 c.in_default.in_default-own.rest.0.0.0.0.1 c.in_default.in_default-own.rest.0.0.0.1 c.in_default.in_default-own.rest.0.0.1 c.in_default.in_default-own.rest.0.1 c.in_default.in_default-own.rest.1)

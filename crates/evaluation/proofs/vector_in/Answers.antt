@@ -12,10 +12,11 @@ pub loop-k-init : goal.loop-k-init
 unfolding padded
 loop-k-init c = filled_none _ input_limit _
 
-pub loop-k-preserved : goal.loop-k-preserved
-unfolding padded
-loop-k-preserved c = filled_more _ input_limit _ _ _ c.loop-k-test.true c.IsPlace-in.ensures c.loop-k.invariant
 
 pub returns : goal.returns
 unfolding padded
 returns c = filled-all _ input_limit _ _ c.loop-k-test.false c.loop-k.invariant
+
+pub loop-k-preserved : goal.loop-k-preserved
+unfolding padded
+loop-k-preserved c = filled_more _ input_limit _ _ _ c.loop-k-test.true c.place_in-y.ensures c.loop-k.invariant

@@ -37,4 +37,4 @@ pub returns-in-45 : goal.returns-in-45
 returns-in-45 c = rw c.in-45.is
 
 pub returns-in_default : goal.returns-in_default
-returns-in_default c = rw (ne_eqb _ _ c.in-48.rest.0.0.0.0.0.0.0.0.0.0.1, ne_eqb _ _ c.in-48.rest.0.0.0.0.0.0.0.0.0.1, ne_eqb _ _ (λ e. c.in-48.rest.0.0.0.0.0.0.0.0.1 (inl e)), ne_eqb _ _ (λ e. c.in-48.rest.0.0.0.0.0.0.0.0.1 (inr e)), ne_eqb _ _ (λ e. c.in-48.rest.0.0.0.0.0.0.0.1 (inl e)), ne_eqb _ _ (λ e. c.in-48.rest.0.0.0.0.0.0.0.1 (inr e)), ne_eqb _ _ c.in-48.rest.0.0.0.0.0.0.1, ne_eqb _ _ (λ e. c.in-48.rest.0.0.0.0.0.1 (inl e)), ne_eqb _ _ (λ e. c.in-48.rest.0.0.0.0.0.1 (inr e)), ne_eqb _ _ (λ e. c.in-48.rest.0.0.0.0.1 (inl e)), ne_eqb _ _ (λ e. c.in-48.rest.0.0.0.0.1 (inr e)), ne_eqb _ _ (λ e. c.in-48.rest.0.0.0.1 (inl e)), ne_eqb _ _ (λ e. c.in-48.rest.0.0.0.1 (inr e)), ne_eqb _ _ (λ e. c.in-48.rest.0.0.1 (inl e)), ne_eqb _ _ (λ e. c.in-48.rest.0.0.1 (inr e)), ne_eqb _ _ c.in-48.rest.0.1, ne_eqb _ _ c.in-48.rest.1)
+returns-in_default c = rw (ne_eqb _ _ c.in_default.in_default-own.rest.0.0.0.0.0.0.0.0.0.0.1, ne_eqb _ _ c.in_default.in_default-own.rest.0.0.0.0.0.0.0.0.0.1, ne_eqb _ _ (λ e. c.in_default.in_default-own.rest.0.0.0.0.0.0.0.0.1 (inl e)), ne_eqb _ _ (λ e. c.in_default.in_default-own.rest.0.0.0.0.0.0.0.0.1 (inr e)), ne_eqb _ _ (λ e. c.in_default.in_default-own.rest.0.0.0.0.0.0.0.1 (inl e)), ne_eqb _ _ (λ e. c.in_default.in_default-own.rest.0.0.0.0.0.0.0.1 (inr e)), ne_eqb _ _ c.in_default.in_default-own.rest.0.0.0.0.0.0.1, ne_eqb _ _ (λ e. c.in_default.in_default-own.rest.0.0.0.0.0.1 (inl e)), ne_eqb _ _ (λ e. c.in_default.in_default-own.rest.0.0.0.0.0.1 (inr e)), ne_eqb _ _ (λ e. c.in_default.in_default-own.rest.0.0.0.0.1 (inl e)), ne_eqb _ _ (λ e. c.in_default.in_default-own.rest.0.0.0.0.1 (inr e)), ne_eqb _ _ (λ e. c.in_default.in_default-own.rest.0.0.0.1 (inl e)), ne_eqb _ _ (λ e. c.in_default.in_default-own.rest.0.0.0.1 (inr e)), ne_eqb _ _ (λ e. c.in_default.in_default-own.rest.0.0.1 (inl e)), ne_eqb _ _ (λ e. c.in_default.in_default-own.rest.0.0.1 (inr e)), ne_eqb _ _ c.in_default.in_default-own.rest.0.1, ne_eqb _ _ c.in_default.in_default-own.rest.1)

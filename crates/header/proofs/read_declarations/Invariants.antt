@@ -4,7 +4,7 @@ use Rattle.grammar.specs.Header.{declarations, declaration_room}
 use Rattle.text.specs.Reader.{bind, check}
 use Rattle.header.proofs.Steps.{turn-fault, turn-output, turn-reg, turn-input, turn-initial, turn-table, turn_none, word_table}
 use Rattle.base.specs.Limits.{input_limit}
-use Rattle.ports.proofs.Keeping.{output-test, output-raise, all_up}
+use Rattle.ports.proofs.Keeping.{output-test, output-raise, all_up_lem}
 use Rattle.ports.proofs.Flags.{down_fresh}
 use mathlib.Core.Bool.{false}
 use lib.ListN.{length, drop, length-set}

@@ -1,8 +1,7 @@
 use mathlib.Core.Path.{sym}
 use lib.ListN.{get_or-eq_default}
 use native.Mathlib.Omega.{arith}
-use borrow.Author.Rules.{rules}
 use Rattle.step.proofs.value_in.Goals as goal
 
 pub returns : goal.returns
-returns c = sym (get_or-eq_default c.args.t1 _ {n = c.args.k} (omega arith))
+returns c = sym (get_or-eq_default c.args.v _ {n = c.args.k} (omega arith))

@@ -11,20 +11,17 @@ use Rattle.writing.specs.Written.{head_of, head_written}
 use Rattle.writing.proofs.Headlaws.{Fits, fits_of, patched_from, patched_next, head_left}
 use Rattle.writing.proofs.write_head.Goals as goal
 
-fits : (c : tie.Else1 invariant-loop decreases-loop invariant-loop2 decreases-loop2) → Fits c.before.before.before.before.before.args.a.now c.before.before.before.before.before.args.name.now c.before.before.before.before.before.args.inputs
-fits c = fits_of _ _ _ (sym c.before.head-fits.ensures ∙ not-false _ c.if1.false)
-
 pub returns-then-not-head_fits : goal.returns-then-not-head_fits
 unfolding head_written head_of
 returns-then-not-head_fits c = rw (← c.head_fits.ensures, not-true c.head_fits.result c.if-not-head_fits.true-raw)
 
 pub loop-p-init : goal.loop-p-init
 loop-p-init c =
-    (omega arith, filled-start _ area_size _ (fits c).long)
+    (omega arith, filled-start _ area_size _ (fits_of _ _ _ (sym c.head_fits.ensures ∙ not-false _ c.if-not-head_fits.false-raw)).long)
 
 pub head_byte-requires : goal.head_byte-requires
 unfolding head_written head_of
-head_byte-requires c = let f = fits c in (f.short, f.few)
+head_byte-requires c = let f = fits_of _ _ _ (sym c.head_fits.ensures ∙ not-false _ c.if-not-head_fits.false-raw) in (f.short, f.few)
 
 pub bounds-a-p : goal.bounds-a-p
 unfolding head_written head_of
@@ -49,7 +46,7 @@ loop-p-2-preserved c =
 
 pub shape_of-a : goal.shape_of-a
 unfolding head_written head_of
-shape_of-a c = c.loop-p-2.invariant.2.long ∙ c.loop-p.invariant.1.long ∙ sym (fits c).long
+shape_of-a c = c.loop-p-2.invariant.2.long ∙ c.loop-p.invariant.1.long ∙ sym (fits_of _ _ _ (sym c.head_fits.ensures ∙ not-false _ c.if-not-head_fits.false-raw)).long
 
 pub returns : goal.returns
 unfolding head_written head_of

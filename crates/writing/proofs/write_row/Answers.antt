@@ -13,37 +13,25 @@ use Rattle.writing.proofs.Headlaws.{Room, room_of, patched_from, patched_next}
 use Rattle.writing.proofs.Rowlaws.{from-part, row-patched, row-left}
 use Rattle.writing.proofs.write_row.Goals as goal
 
-room : (c : tie.Else1 invariant-loop decreases-loop invariant-loop2 decreases-loop2) → Room c.before.before.before.before.args.a.now
-room c = room_of _ (sym c.before.has_room.ensures ∙ not-false _ c.if1.false)
-
-mul-loop : tie.Need-overflow-mul-loop invariant-loop decreases-loop invariant-loop2 decreases-loop2
-mul-loop c = omega (arith, (room c.before.before.before.before.before).inputs, c.before.before.before.wide.ensures)
-
-mul-s : tie.Need-overflow-mul-s invariant-loop decreases-loop invariant-loop2 decreases-loop2
-mul-s c = omega (arith, (room c.before.before.before.before.before.before).inputs, c.before.before.before.before.wide.ensures)
-
-add_a : tie.Need-overflow-add-a invariant-loop decreases-loop invariant-loop2 decreases-loop2
-add_a c = let r = room c.before.before.before.before.before.before.before.before in omega (arith, r.inputs, r.rows, c.before.before.before.before.wide2.ensures, c.before.before.before.before.before.before.wide.ensures)
-
 pub returns-then-not-has_room : goal.returns-then-not-has_room
 unfolding row_written
 returns-then-not-has_room c = rw (← c.has_room.ensures, not-true c.has_room.result c.if-not-has_room.true-raw)
 
 pub bounds-a-34 : goal.bounds-a-34
 unfolding row_written
-bounds-a-34 c = omega (arith, (room c).long)
+bounds-a-34 c = omega (arith, (room_of _ (sym c.has_room.ensures ∙ not-false _ c.if-not-has_room.false-raw)).long)
 
 pub bounds-a-36 : goal.bounds-a-36
 unfolding row_written
-bounds-a-36 c = omega (arith, (room c).long)
+bounds-a-36 c = omega (arith, (room_of _ (sym c.has_room.ensures ∙ not-false _ c.if-not-has_room.false-raw)).long)
 
 pub overflow_mul-at : goal.overflow_mul-at
 unfolding row_written
-overflow_mul-at c = omega (arith, (room c).rows, c.wide.ensures)
+overflow_mul-at c = omega (arith, (room_of _ (sym c.has_room.ensures ∙ not-false _ c.if-not-has_room.false-raw)).rows, c.wide.ensures)
 
 pub overflow_add-at : goal.overflow_add-at
 unfolding row_written
-overflow_add-at c = omega (arith, (room c).rows, c.wide.ensures)
+overflow_add-at c = omega (arith, (room_of _ (sym c.has_room.ensures ∙ not-false _ c.if-not-has_room.false-raw)).rows, c.wide.ensures)
 
 pub loop-k-init : goal.loop-k-init
 unfolding row_written
@@ -51,71 +39,71 @@ loop-k-init c = (omega arith, patched-none _ _ _)
 
 pub overflow_mul-n : goal.overflow_mul-n
 unfolding row_written
-overflow_mul-n = mul-loop
+overflow_mul-n c = omega (arith, (room_of _ (sym c.has_room.ensures ∙ not-false _ c.if-not-has_room.false-raw)).inputs, c.wide-n.ensures)
 
 pub offset_bounds-symbols-m : goal.offset_bounds-symbols-m
 unfolding row_written
-offset_bounds-symbols-m = mul-s
+offset_bounds-symbols-m c = omega (arith, (room_of _ (sym c.has_room.ensures ∙ not-false _ c.if-not-has_room.false-raw)).inputs, c.wide-n.ensures)
 
 pub bounds-symbols-m : goal.bounds-symbols-m
 bounds-symbols-m c =
-    omega (arith, (room c).inputs, c.wide-n.ensures)
+    omega (arith, (room_of _ (sym c.has_room.ensures ∙ not-false _ c.if-not-has_room.false-raw)).inputs, c.wide-n.ensures)
 
 pub overflow_add-a : goal.overflow_add-a
 unfolding row_written
-overflow_add-a = add_a
+overflow_add-a c = let r = room_of _ (sym c.has_room.ensures ∙ not-false _ c.if-not-has_room.false-raw) in omega (arith, r.inputs, r.rows, c.wide.ensures, c.wide-n.ensures)
 
 pub bounds-a-at : goal.bounds-a-at
 bounds-a-at c =
-    let r = room c in
+    let r = room_of _ (sym c.has_room.ensures ∙ not-false _ c.if-not-has_room.false-raw) in
     omega (arith, r.inputs, r.rows, r.long, c.wide.ensures, c.wide-n.ensures, c.loop-k.invariant.1.long)
 
 pub overflow_add-k : goal.overflow_add-k
 unfolding row_written
-overflow_add-k c = omega (arith, (room c).inputs, c.wide-n.ensures)
+overflow_add-k c = omega (arith, (room_of _ (sym c.has_room.ensures ∙ not-false _ c.if-not-has_room.false-raw)).inputs, c.wide-n.ensures)
 
 pub loop-k-preserved : goal.loop-k-preserved
 loop-k-preserved c =
-    let r = room c in
+    let r = room_of _ (sym c.has_room.ensures ∙ not-false _ c.if-not-has_room.false-raw) in
     let a = c.args in
     let few : c.wide-n.result ≤ input_limit = omega (arith, r.inputs, c.wide-n.ensures) in (
     omega arith,
     patched-more _ _ _ _ _ _ (omega (arith, r.rows, r.long, c.wide.ensures))
-    (c.symbol_part.ensures ∙ sym (from-part c.wide-n.result a.t2 a.state a.output (omega arith) c.loop-k.k c.loop-k-test.true))
+    (c.symbol_part.ensures ∙ sym (from-part c.wide-n.result a.symbols a.state a.output (omega arith) c.loop-k.k c.loop-k-test.true))
     c.loop-k.invariant.1,
     )
 
 pub loop-k-2-init : goal.loop-k-2-init
 loop-k-2-init c =
-    let r = room c in
+    let r = room_of _ (sym c.has_room.ensures ∙ not-false _ c.if-not-has_room.false-raw) in
     (omega arith, omega (arith, r.inputs, c.wide-n.ensures), patched_from _ _ _ _)
 
 pub overflow_add-a-in-loop-k-2 : goal.overflow_add-a-in-loop-k-2
 unfolding row_written
-overflow_add-a-in-loop-k-2 c = omega (arith, (room c).rows, c.wide.ensures)
+overflow_add-a-in-loop-k-2 c = omega (arith, (room_of _ (sym c.has_room.ensures ∙ not-false _ c.if-not-has_room.false-raw)).rows, c.wide.ensures)
 
 pub bounds-a-at-in-loop-k-2 : goal.bounds-a-at-in-loop-k-2
 unfolding row_written
-bounds-a-at-in-loop-k-2 c = let r = room c in omega (arith, r.rows, r.long, c.wide.ensures, c.loop-k-2.invariant.2.long, c.loop-k.invariant.1.long)
+bounds-a-at-in-loop-k-2 c = let r = room_of _ (sym c.has_room.ensures ∙ not-false _ c.if-not-has_room.false-raw) in omega (arith, r.rows, r.long, c.wide.ensures, c.loop-k-2.invariant.2.long, c.loop-k.invariant.1.long)
 
 pub loop-k-2-preserved : goal.loop-k-2-preserved
 loop-k-2-preserved c =
-    let r = room c in
+    let r = room_of _ (sym c.has_room.ensures ∙ not-false _ c.if-not-has_room.false-raw) in
     let l = c.loop-k-2 in
     let e : c.loop-k.k + (l.k - c.loop-k.k) ≡ l.k = omega (arith, l.invariant.0) in
     (omega (arith, l.invariant.0), omega arith, patched_next _ _ _ l.k _ _ _ _ l.invariant.0 (omega (arith, l.invariant.0)) (omega (arith, r.rows, r.long, c.wide.ensures, c.loop-k.invariant.1.long)) (rw e c.last_byte.ensures) l.invariant.2)
 
 pub bounds-a-36-2 : goal.bounds-a-36-2
 unfolding row_written
-bounds-a-36-2 c = omega (arith, (room c).long, c.loop-k-2.invariant.2.long, c.loop-k.invariant.1.long)
+bounds-a-36-2 c = omega (arith, (room_of _ (sym c.has_room.ensures ∙ not-false _ c.if-not-has_room.false-raw)).long, c.loop-k-2.invariant.2.long, c.loop-k.invariant.1.long)
 
 pub overflow_add-a-2 : goal.overflow_add-a-2
 unfolding row_written
-overflow_add-a-2 c = omega (arith, (room c).rows, c.loop-k-2.invariant.2.below count_at (omega arith), c.loop-k.invariant.1.below count_at (omega arith))
+overflow_add-a-2 c = omega (arith, (room_of _ (sym c.has_room.ensures ∙ not-false _ c.if-not-has_room.false-raw)).rows, c.loop-k-2.invariant.2.below count_at (omega arith), c.loop-k.invariant.1.below count_at (omega arith))
 
 pub bounds-a-36-3 : goal.bounds-a-36-3
 unfolding row_written
-bounds-a-36-3 c = omega (arith, (room c).long, c.loop-k-2.invariant.2.long, c.loop-k.invariant.1.long)
+bounds-a-36-3 c = omega (arith, (room_of _ (sym c.has_room.ensures ∙ not-false _ c.if-not-has_room.false-raw)).long, c.loop-k-2.invariant.2.long, c.loop-k.invariant.1.long)
 
 pub shape_of-a : goal.shape_of-a
 unfolding row_written
@@ -124,11 +112,11 @@ shape_of-a c = simp length-set (c.loop-k-2.invariant.2.long ∙ c.loop-k.invaria
 pub returns : goal.returns
 unfolding row_written
 returns c =
-    let r = room c in
+    let r = room_of _ (sym c.has_room.ensures ∙ not-false _ c.if-not-has_room.false-raw) in
     let a = c.args in
     let s : c.loop-k.k ≡ 2 * c.wide-n.result = omega (arith, c.loop-k.invariant.0) in
     let e : c.loop-k-2.k ≡ row_size = omega arith in
     let few : c.wide-n.result ≤ input_limit = omega (arith, r.inputs, c.wide-n.ensures) in
     rw (← c.has_room.ensures, not-false c.has_room.result c.if-not-has_room.false-raw)
     (row-left _ _ _ r.long r.rows (rw (c.wide-n.ensures, c.wide.ensures) at
-    (row-patched c.wide-n.result a.t2 a.state a.output (omega arith) _ c.loop-k.a _ _ few (rw s at c.loop-k.invariant.1) (rw (s, e) at c.loop-k-2.invariant.2))))
+    (row-patched c.wide-n.result a.symbols a.state a.output (omega arith) _ c.loop-k.a _ _ few (rw s at c.loop-k.invariant.1) (rw (s, e) at c.loop-k-2.invariant.2))))

@@ -1,0 +1,25 @@
+use native.Mathlib.Omega.{arith}
+use borrow.Author.Rules.{rules}
+use Rattle.backward.proofs.Way.{start_less, before-none, before-past, before-torn, before-entry, before-other}
+use Rattle.backward.proofs.entry_before.Goals as goal
+
+-- `reader::entry_before` meets its contract. Assumes nothing.
+use Prim.Native.Nat.{◌-◌}
+
+pub returns-then-at-eq0 : goal.returns-then-at-eq0
+returns-then-at-eq0 c = before-none _ _ c.if-at-eq0.true
+
+pub returns-then-book-at : goal.returns-then-book-at
+returns-then-book-at c = before-past _ _ c.if-at-eq0.false c.if-book-at.true
+
+pub returns-then-book-at-ne10 : goal.returns-then-book-at-ne10
+returns-then-book-at-ne10 c = before-torn _ _ c.if-at-eq0.false c.if-book-at.false _ c.start_before-s.ensures c.if-book-at-ne10.true
+
+pub returns-then-is_entry : goal.returns-then-is_entry
+returns-then-is_entry c = before-entry _ _ c.if-at-eq0.false c.if-book-at.false _ c.start_before-s.ensures c.if-book-at-ne10.false _ c.is_entry.ensures c.if-is_entry.true _ c.read_line-t.ensures
+
+pub returns-else-is_entry : goal.returns-else-is_entry
+returns-else-is_entry c = before-other _ _ c.if-at-eq0.false c.if-book-at.false _ c.start_before-s.ensures c.if-book-at-ne10.false _ c.is_entry.ensures c.if-is_entry.false
+
+pub returns-else-s-at : goal.returns-else-s-at
+returns-else-s-at c = absurd (omega (arith, c.if-s-at.false, start_less c.args.book.now c.args.at (omega (arith, c.if-at-eq0.false)), c.start_before-s.ensures))

@@ -1,0 +1,28 @@
+use Rattle.reading.proofs.Whole.{word-refused, name-refused, head-refused, head-begins, rows-refused, primitive-drawn}
+use mathlib.Core.Path.{◌∙◌}
+use borrow.Author.Rules.{rules}
+use Rattle.reading.proofs.read_primitive.Goals as goal
+
+pub returns-in_default : goal.returns-in_default
+returns-in_default c = word-refused c.args.text.now c.args.at _ c.read_keyword-s.result c.read_keyword-s.ensures _ _ c.in_default.is _
+
+pub returns-in_default-w : goal.returns-in_default-w
+returns-in_default-w c = name-refused c.args.text.now c.args.at _ c.read_keyword-s.result c.read_keyword-s.ensures _ _ c.in-At.is c.read_name-w.result c.read_name-w.ensures _ _ c.in_default-w.is _
+
+pub returns-in_default-h : goal.returns-in_default-h
+returns-in_default-h c = head-refused c.args.text.now c.args.at _ c.read_keyword-s.result c.read_keyword-s.ensures _ _ c.in-At.is c.read_name-w.result c.read_name-w.ensures _ _ c.in-At-w.is c.read_head-h.result c.read_head-h.ensures _ _ c.in_default-h.is c.raised.result c.raised.ensures _
+
+pub read_rows-r-requires : goal.read_rows-r-requires
+read_rows-r-requires c = head-begins c.args.text.now c.args.at _ c.read_keyword-s.result c.read_keyword-s.ensures _ _ c.in-At.is c.read_name-w.result c.read_name-w.ensures _ _ c.in-At-w.is c.read_head-h.result c.read_head-h.ensures _ _ c.in-At-h.is _ _ _ c.requires c.part.ensures c.write_head.ensures
+
+pub shape_of-draft-in_default-r : goal.shape_of-draft-in_default-r
+shape_of-draft-in_default-r c = c.read_rows-r.auto.1.1.1.1.0 ∙ c.write_head.auto.0
+
+pub returns-in_default-r : goal.returns-in_default-r
+returns-in_default-r c = rows-refused c.args.text.now c.args.at _ c.read_keyword-s.result c.read_keyword-s.ensures _ _ c.in-At.is c.read_name-w.result c.read_name-w.ensures _ _ c.in-At-w.is c.read_head-h.result c.read_head-h.ensures _ _ c.in-At-h.is _ _ _ c.requires c.part.ensures c.write_head.ensures c.read_rows-r.result _ c.read_rows-r.ensures _ _ c.in_default-r.is
+
+pub shape_of-draft : goal.shape_of-draft
+shape_of-draft c = c.read_rows-r.auto.1.1.1.1.0 ∙ c.write_head.auto.0
+
+pub returns : goal.returns
+returns c = primitive-drawn c.args.text.now c.args.at _ c.read_keyword-s.result c.read_keyword-s.ensures _ _ c.in-At.is c.read_name-w.result c.read_name-w.ensures _ _ c.in-At-w.is c.read_head-h.result c.read_head-h.ensures _ _ c.in-At-h.is _ _ _ c.requires c.part.ensures c.write_head.ensures c.read_rows-r.result _ c.read_rows-r.ensures _ _ c.in-At-r.is _ c.read_keyword.result c.read_keyword.ensures
