@@ -176,7 +176,7 @@ fn finding_count(n: usize, finding: Finding) -> usize
 }
 
 fn field_length(name: &[u8], inputs: usize, rows: usize, finding: Finding, m: usize) -> usize
-    ensures { result ≡ length (get_or (fields (draft record { name = now name.entry; inputs = inputs; rows = rows; finding = finding })) m []) }
+    ensures { result ≡ length (get_or (fields (draft record { name = name.now; inputs = inputs; rows = rows; finding = finding })) m []) }
 {
     match m {
         0 => name.len(),
@@ -187,7 +187,7 @@ fn field_length(name: &[u8], inputs: usize, rows: usize, finding: Finding, m: us
 }
 
 fn field_byte(name: &[u8], inputs: usize, rows: usize, finding: Finding, m: usize, k: usize) -> u8
-    ensures { result ≡ get_or (get_or (fields (draft record { name = now name.entry; inputs = inputs; rows = rows; finding = finding })) m []) k 0 }
+    ensures { result ≡ get_or (get_or (fields (draft record { name = name.now; inputs = inputs; rows = rows; finding = finding })) m []) k 0 }
 {
     match m {
         0 => if k < name.len() { name[k] } else { 0 },
@@ -223,7 +223,7 @@ pub fn line_byte(
     s: usize,
     k: usize,
 ) -> u8
-    ensures { result ≡ get_or (entry s (draft record { name = now name.entry; inputs = inputs; rows = rows; finding = finding }) ++ (LF ∷ [])) k 0 }
+    ensures { result ≡ get_or (entry s (draft record { name = name.now; inputs = inputs; rows = rows; finding = finding }) ++ (LF ∷ [])) k 0 }
 {
     let count = 3 + finding_count(inputs, finding);
     let mut m: usize = 0;
@@ -244,8 +244,8 @@ pub fn line_byte(
 
 // The length of a fitting verdict's line, its LF with it; 0 where the verdict does not fit.
 pub fn line_length(name: &[u8], inputs: usize, rows: usize, finding: Finding) -> usize
-    ensures { result ≡ cond (fits_layout record { name = now name.entry; inputs = inputs; rows = rows; finding = finding })
-        (suc (length (entry 0 (draft record { name = now name.entry; inputs = inputs; rows = rows; finding = finding })))) 0 }
+    ensures { result ≡ cond (fits_layout record { name = name.now; inputs = inputs; rows = rows; finding = finding })
+        (suc (length (entry 0 (draft record { name = name.now; inputs = inputs; rows = rows; finding = finding })))) 0 }
 {
     if !handed::fits(name, inputs, rows, finding) {
         return 0;

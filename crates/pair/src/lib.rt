@@ -11,6 +11,7 @@ ghost use Rattle.memo.specs.Pair.{others_of, first_then, second_then};
 ghost use Rattle.pair.specs.Search.{Known, Given, out_of, differs_by, differs_in, first_at, output_at};
 
 // The rows that match in column k where c is offered there.
+#[tactic(auto, unfolding(memo::specs::Rows::cell_at))]
 fn cell_at(s: &[[u64; memo::OFFERS]; memo::COLUMNS], k: usize, c: usize) -> u64
     requires { (k ≤ input_limit) × (c < 12) }
     ensures { result ≡ cell_at s.now k c }
@@ -100,6 +101,7 @@ fn entry(
 }
 
 // i steps and then j; with the two exchanged, j steps and then i.
+#[tactic(auto, unfolding(memo::specs::Pair::first_then))]
 fn first_then(
     s: &[[u64; memo::OFFERS]; memo::COLUMNS],
     outs: &[u8; planes::OUTPUTS],
@@ -201,6 +203,7 @@ fn agree_v(
 }
 
 // The first of the 27 cases in which the two orders differ.
+#[tactic(auto, unfolding(crate::specs::Search::differs_by))]
 fn first_case(
     s: &[[u64; memo::OFFERS]; memo::COLUMNS],
     outs: &[u8; planes::OUTPUTS],

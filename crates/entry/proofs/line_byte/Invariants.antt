@@ -13,7 +13,7 @@ use Rattle.entry.proofs.Fields.{findings_few, line_parts}
 use Rattle.entry.proofs.line_byte.Given as goal
 
 abbrev pub invariant-loop-m : goal.invariant-loop-m
-invariant-loop-m l = get_or (entry l.s (draft (record { l.name = l.name; l.inputs = l.inputs; l.rows = l.rows; l.finding = l.finding })) ++ (LF ∷ [])) l.k 0 ≡ get_or (join space (drop l.m (fields (draft (record { l.name = l.name; l.inputs = l.inputs; l.rows = l.rows; l.finding = l.finding })))) ++ (trailer l.s ++ (LF ∷ []))) l.i 0
+invariant-loop-m l = get_or (entry l.s (draft (record { name = l.name; inputs = l.inputs; rows = l.rows; finding = l.finding })) ++ (LF ∷ [])) l.k 0 ≡ get_or (join space (drop l.m (fields (draft (record { name = l.name; inputs = l.inputs; rows = l.rows; finding = l.finding })))) ++ (trailer l.s ++ (LF ∷ []))) l.i 0
 
 abbrev pub decreases-loop-m : goal.decreases-loop-m
 decreases-loop-m l = l.count - l.m

@@ -33,20 +33,14 @@ returns-then-not-row_at c = end-drawn c.loop-k.invariant.0 c.skip_from-p.result 
 pub read_row-s-requires : goal.read_row-s-requires
 read_row-s-requires c = let l = c.loop-k in let g = l.invariant.0 in (omega (arith, g.shaped.bounded.inputs, g.inputs), going_inputs g)
 
-pub shape_of-a-in_default-s : goal.shape_of-a-in_default-s
-shape_of-a-in_default-s c = c.read_row-s.auto.1.1.1.1.0 ∙ c.loop-k.invariant.1
 
 pub returns-in_default-s : goal.returns-in_default-s
 returns-in_default-s c = row-refused c.loop-k.invariant.0 c.skip_from-p.result c.skip_from-p.ensures c.loop-k-test.true (sym c.row_at.ensures ∙ not-false c.row_at.result c.if-not-row_at.false-raw) c.read_row-s.result _ c.read_row-s.ensures _ _ c.in_default-s.is _
 
-pub shape_of-a-then-not-row_agrees : goal.shape_of-a-then-not-row_agrees
-shape_of-a-then-not-row_agrees c = c.read_row-s.auto.1.1.1.1.0 ∙ c.loop-k.invariant.1
 
 pub returns-then-not-row_agrees : goal.returns-then-not-row_agrees
 returns-then-not-row_agrees c = row_apart c.loop-k.invariant.0 c.skip_from-p.result c.skip_from-p.ensures c.loop-k-test.true (sym c.row_at.ensures ∙ not-false c.row_at.result c.if-not-row_at.false-raw) c.read_row-s.result _ c.read_row-s.ensures _ _ c.in-At-s.is c.row_agrees.result c.row_agrees.ensures (not-true _ c.if-not-row_agrees.true-raw)
 
-pub loop-k-preserved : goal.loop-k-preserved
-loop-k-preserved c = (row_more c.loop-k.invariant.0 c.skip_from-p.result c.skip_from-p.ensures c.loop-k-test.true (sym c.row_at.ensures ∙ not-false c.row_at.result c.if-not-row_at.false-raw) c.read_row-s.result _ c.read_row-s.ensures _ _ c.in-At-s.is c.row_agrees.result c.row_agrees.ensures (not-false _ c.if-not-row_agrees.false-raw), c.read_row-s.auto.1.1.1.1.0 ∙ c.loop-k.invariant.1)
 
 pub shape_of-a-then-row_at : goal.shape_of-a-then-row_at
 shape_of-a-then-row_at c = c.loop-k.invariant.1
@@ -59,3 +53,13 @@ shape_of-a c = c.loop-k.invariant.1
 
 pub returns : goal.returns
 returns c = full-drawn c.loop-k.invariant.0 c.skip_from-p-2.result c.skip_from-p-2.ensures (omega arith) (sym c.row_at-2.ensures ∙ c.if-row_at.false) _ c.read_keyword.result c.read_keyword.ensures
+
+pub loop-k-preserved : goal.loop-k-preserved
+loop-k-preserved c = (row_more c.loop-k.invariant.0 c.skip_from-p.result c.skip_from-p.ensures c.loop-k-test.true (sym c.row_at.ensures ∙ not-false c.row_at.result c.if-not-row_at.false-raw) c.read_row-s.result _ c.read_row-s.ensures _ _ c.in-At-s.is c.row_agrees.result c.row_agrees.ensures (not-false _ c.if-not-row_agrees.false-raw), c.read_row-s.auto.a ∙ c.loop-k.invariant.1)
+
+pub shape_of-a-then-not-row_agrees : goal.shape_of-a-then-not-row_agrees
+shape_of-a-then-not-row_agrees c = c.read_row-s.auto.a ∙ c.loop-k.invariant.1
+
+pub shape_of-a-in_default-s : goal.shape_of-a-in_default-s
+shape_of-a-in_default-s c = c.read_row-s.auto.a ∙ c.loop-k.invariant.1
+

@@ -10,7 +10,7 @@ use borrow.Author.Rules.{rules}
 use Rattle.rows.proofs.read_rows.Given as goal
 
 abbrev pub invariant-loop-k : goal.invariant-loop-k
-invariant-loop-k l = Going l.text l.at (decode l.initial.a) l.sequential l.n l.k i k × (length l.k ≡ length l.initial.a)
+invariant-loop-k l = Going l.text l.at (decode l.initial.a) l.sequential l.n l.a l.i l.k × (length l.a ≡ length l.initial.a)
 
 abbrev pub decreases-loop-k : goal.decreases-loop-k
-decreases-loop-k l = row_limit - k
+decreases-loop-k l = row_limit - l.k
