@@ -330,6 +330,7 @@ fn letter_of(finding: Finding) -> u8
     }
 }
 
+#[tactic(auto, unfolding(crate::specs::Books::witness_number))]
 fn number_in(w: Witness, k: usize) -> usize
     ensures { result ≡ witness_number (Dependent w) k }
 {
@@ -359,6 +360,7 @@ fn witness_number(finding: Finding, k: usize) -> usize
     }
 }
 
+#[tactic(auto, unfolding(crate::specs::Books::entry_number))]
 fn entry_number(e: book::Entry, k: usize) -> usize
     ensures { result ≡ entry_number e k }
 {

@@ -10,7 +10,7 @@ use Rattle.bankplover.proofs.bankplover_square.Goals as goal
 
 pub returns-then-not-s : goal.returns-then-not-s
 unfolding square_cells
-returns-then-not-s c = rw (formed_by c.args.area.now c.square-s.result _ c.square-s.ensures (not-true _ c.if-not-s.true-raw)) record { value = refl; cells = refl; told = refl }
+returns-then-not-s c = rw (formed_by c.args.area.now c.square-s.result _ c.square-s.ensures c.if-not-s.true) record { value = refl; cells = refl; told = refl }
 
 pub loop-k-init : goal.loop-k-init
 unfolding square_cells
@@ -22,4 +22,4 @@ loop-k-preserved c = filled_more _ 81 _ _ _ c.loop-k-test.true c.bit_of.ensures 
 
 pub returns : goal.returns
 unfolding square_cells
-returns c = rw (formed_by c.args.area.now c.square-s.result _ c.square-s.ensures (not-false _ c.if-not-s.false-raw), ← c.square-s.ensures) record { value = refl; cells = filled-all _ 81 _ _ c.loop-k-test.false c.loop-k.invariant; told = refl }
+returns c = rw (formed_by c.args.area.now c.square-s.result _ c.square-s.ensures c.if-not-s.false, ← c.square-s.ensures) record { value = refl; cells = filled-all _ 81 _ _ c.loop-k-test.false c.loop-k.invariant; told = refl }
