@@ -137,6 +137,7 @@ fn append_at(
     Appended::Stated(stated)
 }
 
+#[tactic(auto, unfolding(crate::specs::Book::appended))]
 pub fn append(
     book: &mut [u8],
     stated: usize,
@@ -172,6 +173,7 @@ fn entry_in(file: &[u8], a: usize, e: usize) -> Entry
 }
 
 // Entry k, counted from 0.
+#[tactic(auto, unfolding(crate::specs::Book::entry_of, files::specs::Parts::part_at))]
 fn entry_of(book: &[u8], k: usize) -> Entry
     ensures { result ≡ entry_of book.now k }
 {
@@ -179,6 +181,7 @@ fn entry_of(book: &[u8], k: usize) -> Entry
     entry_in(book, a, files::next(book, b'\n', a))
 }
 
+#[tactic(auto, unfolding(crate::specs::Book::fetched))]
 pub fn fetch(book: &[u8], stated: usize, k: usize) -> Fetched
     ensures { result ≡ fetched book.now stated k }
 {

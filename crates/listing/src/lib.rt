@@ -47,6 +47,7 @@ fn byte_behind(book: &[u8], at: usize, k: usize) -> u8
 }
 
 // So many bytes of a verdict's line stand in the book from `at` on.
+#[tactic(auto, unfolding(crate::specs::Next::stands_in))]
 pub fn stands(
     book: &[u8],
     at: usize,

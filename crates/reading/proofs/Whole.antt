@@ -130,9 +130,6 @@ begins_there t i h = rw (drop-cons t i 0 h)
 ends_there : (t : List ℕ) (i : ℕ) → length t ≤ i → or_end (got tt i (drop i t)) ≡ end
 ends_there t i h = rw (drop_of_length-le t h)
 
-copied : (d a : List ℕ) → length a ≡ length d → take (length d) d ++ drop (length d) a ≡ d
-copied d a e = rw (take-length, drop_of_length-le a {i = length d} (omega arith), append-nil)
-
 -- ---- the primitive as it is drawn
 
 module _ (t : List ℕ) (at : ℕ) (f : ℕ → ℕ → List ℕ) (s : Step) (opens : keyword (bytes "primitive") at (drop at t) ≡ meant t f s) where
@@ -199,7 +196,7 @@ module _ (t : List ℕ) (start : ℕ) (area : List ℕ) (size : length area ≡ 
     pub read-refused : (c p : ℕ) → s ≡ Refused c p → (r : Reading) → r ≡ refusal_of s → read_into t start area ≡ out r area
     read-refused c p e r q = rw (said-from, begins_there t i more, drawn_refused encode (primitive i (drop i t)) c p (rw e at one), q, e)
 
-    pub read_table : (x e : ℕ) → s ≡ At x e → length area ≡ length d → (b : List ℕ) → b ≡ take (length d) d ++ drop (length d) area → read_into t start area ≡ out (TableAt e) b
+    pub read_table : (x e : ℕ) → s ≡ At x e → length area ≡ length d → (b : List ℕ) → b ≡ d → read_into t start area ≡ out (TableAt e) b
     read_table x e q same b w =
         let l = drawn_got encode (primitive i (drop i t)) d e (drop e t) (rw q at one) in
-        rw (said-from, begins_there t i more, l.1, l.2, w, copied d area same)
+        rw (said-from, begins_there t i more, l.1, l.2, w)

@@ -61,6 +61,7 @@ fn read_primitive(text: &[u8], at: usize, draft: &mut [u8]) -> Step
 }
 
 // Reads one primitive from a place of the text on. The area gets the whole table; "end" and a refusal leave it as it was.
+#[tactic(auto, unfolding(grammar::specs::Reading::read, crate::specs::Told::read_into))]
 pub fn read(text: &[u8], start: usize, area: &mut [u8]) -> Reading
     ensures { read_into text.now start area.old ≡ out result area.new }
 {

@@ -8,10 +8,12 @@ use Rattle.book.proofs.entry_of.Goals as goal
 -- `book::entry_of` meets its contract. Assumes nothing.
 use Prim.Native.Nat.{◌-◌}
 
-pub entry_in-requires : goal.entry_in-requires
-unfolding entry_of part_at
-entry_in-requires c = part-order LF _ c.args.book.now _ _ c.after-a.ensures c.next.ensures
 
 pub returns : goal.returns
 unfolding entry_of part_at
 returns c = rw (← c.after-a.ensures, ← c.next.ensures) c.entry_in.ensures
+
+pub entry_in-requires : goal.entry_in-requires
+entry_in-requires c =
+    let p = part-order LF _ c.args.book.now _ _ c.after-a.ensures c.next.ensures in
+    record { a_le_e = p.0; e_in_bounds = p.1 }

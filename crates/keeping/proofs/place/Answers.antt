@@ -7,8 +7,9 @@ use Rattle.keeping.proofs.Standing.{stands-long, stands-inside}
 use borrow.Author.Rules.{rules}
 use Rattle.keeping.proofs.place.Goals as goal
 
-pub returns-then-good-at : goal.returns-then-good-at
-returns-then-good-at c = added_here (handed (decode c.args.area.now) c.args.finding) c.args.next c.args.book.now c.args.at c.args.good c.add.result c.add.new.1.1.1.0 c.if-good-at.true c.add.ensures
 
 pub overflow_add-result : goal.overflow_add-result
 overflow_add-result c = record { fits = omega (arith, c.standing_length-size.ensures, stands-long c.args.book.now c.args.at (handed (decode c.args.area.now) c.args.finding) (λ z. c.if-size-eq0.false (c.standing_length-size.ensures ∙ z)), stands-inside c.args.book.now c.args.at (handed (decode c.args.area.now) c.args.finding) (λ z. c.if-size-eq0.false (c.standing_length-size.ensures ∙ z))) }
+
+pub returns-then-good-at : goal.returns-then-good-at
+returns-then-good-at c = added_here (handed (decode c.args.area.now) c.args.finding) c.args.next c.args.book.now c.args.at c.args.good c.add.result c.add.new.book c.if-good-at.true c.add.ensures

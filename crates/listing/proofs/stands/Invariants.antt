@@ -16,7 +16,7 @@ use Rattle.listing.specs.Next.{stands_in}
 use Rattle.listing.proofs.stands.Given as goal
 
 abbrev pub invariant-loop-k : goal.invariant-loop-k
-invariant-loop-k l = (l.k ≤ l.size) × (every l.k (λ (m : ℕ). eqb (get_or l.book (l.at + m) 0) (get_or (entry l.at (draft (record { l.name = l.name; l.inputs = l.inputs; l.rows = l.rows; l.finding = l.finding })) ++ (LF ∷ [])) m 0)) ≡ true)
+invariant-loop-k l = (l.k ≤ l.size) × (every l.k (λ (m : ℕ). eqb (get_or l.book (l.at + m) 0) (get_or (entry l.at (draft (record { name = l.name; inputs = l.inputs; rows = l.rows; finding = l.finding })) ++ (LF ∷ [])) m 0)) ≡ true)
 
 abbrev pub decreases-loop-k : goal.decreases-loop-k
 decreases-loop-k l = l.size - l.k

@@ -28,4 +28,4 @@ returns-in_default c = read-refused c.args.text.now c.args.start _ c.if-area-ne-
 
 pub returns : goal.returns
 unfolding read_into read
-returns c = read_table c.args.text.now c.args.start _ c.if-area-ne-AREA.false c.if-text-gt-TEXT.false c.if-text-start.false c.skip_from-i.result c.skip_from-i.ensures c.if-text-i.false _ c.read_primitive-s.result c.read_primitive-s.ensures _ _ c.in-At.is (omega (arith, c.if-area-ne-AREA.false)) _ c.copy.ensures.1
+returns c = read_table c.args.text.now c.args.start _ c.if-area-ne-AREA.false c.if-text-gt-TEXT.false c.if-text-start.false c.skip_from-i.result c.skip_from-i.ensures c.if-text-i.false _ c.read_primitive-s.result c.read_primitive-s.ensures _ _ c.in-At.is (omega (arith, c.if-area-ne-AREA.false)) _ c.copy_from_slice.ensures.after

@@ -15,14 +15,10 @@ returns-in_default-h c = head-refused c.args.text.now c.args.at _ c.read_keyword
 pub read_rows-r-requires : goal.read_rows-r-requires
 read_rows-r-requires c = head-begins c.args.text.now c.args.at _ c.read_keyword-s.result c.read_keyword-s.ensures _ _ c.in-At.is c.read_name-w.result c.read_name-w.ensures _ _ c.in-At-w.is c.read_head-h.result c.read_head-h.ensures _ _ c.in-At-h.is _ _ _ c.requires c.part.ensures c.write_head.ensures
 
-pub shape_of-draft-in_default-r : goal.shape_of-draft-in_default-r
-shape_of-draft-in_default-r c = c.read_rows-r.auto.1.1.1.1.0 ∙ c.write_head.auto.0
 
 pub returns-in_default-r : goal.returns-in_default-r
 returns-in_default-r c = rows-refused c.args.text.now c.args.at _ c.read_keyword-s.result c.read_keyword-s.ensures _ _ c.in-At.is c.read_name-w.result c.read_name-w.ensures _ _ c.in-At-w.is c.read_head-h.result c.read_head-h.ensures _ _ c.in-At-h.is _ _ _ c.requires c.part.ensures c.write_head.ensures c.read_rows-r.result _ c.read_rows-r.ensures _ _ c.in_default-r.is
 
-pub shape_of-draft : goal.shape_of-draft
-shape_of-draft c = c.read_rows-r.auto.1.1.1.1.0 ∙ c.write_head.auto.0
 
 pub returns : goal.returns
 returns c = primitive-drawn c.args.text.now c.args.at _ c.read_keyword-s.result c.read_keyword-s.ensures _ _ c.in-At.is c.read_name-w.result c.read_name-w.ensures _ _ c.in-At-w.is c.read_head-h.result c.read_head-h.ensures _ _ c.in-At-h.is _ _ _ c.requires c.part.ensures c.write_head.ensures c.read_rows-r.result _ c.read_rows-r.ensures _ _ c.in-At-r.is _ c.read_keyword.result c.read_keyword.ensures
