@@ -1,6 +1,5 @@
 use mathlib.Core.Path.{refl}
 use Rattle.bankplover.specs.Books.{handed}
-use borrow.Author.Rules.{rules}
 use Rattle.bankplover.proofs.append_to.Goals as goal
 
 pub returns-then-says_finding : goal.returns-then-says_finding

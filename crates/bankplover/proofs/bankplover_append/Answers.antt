@@ -1,6 +1,5 @@
 use mathlib.Core.Path.{refl}
 use Rattle.bankplover.specs.Books.{appended_number, appended_told}
-use borrow.Author.Rules.{rules}
 use Rattle.bankplover.proofs.bankplover_append.Goals as goal
 
 pub returns-in-Stated : goal.returns-in-Stated

@@ -1,6 +1,5 @@
 use mathlib.Core.Path.{refl}
 use Rattle.bankplover.specs.Told.{evaluation_number, evaluation_told}
-use borrow.Author.Rules.{rules}
 use Rattle.bankplover.proofs.bankplover_evaluate.Goals as goal
 
 pub returns-in-Output : goal.returns-in-Output

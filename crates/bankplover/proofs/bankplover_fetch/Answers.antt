@@ -1,6 +1,5 @@
 use mathlib.Core.Path.{refl}
 use Rattle.bankplover.specs.Books.{fetched_number, fetched_told, entry_cells}
-use borrow.Author.Rules.{rules}
 use Rattle.bankplover.proofs.bankplover_fetch.Goals as goal
 
 pub returns-in-Entry : goal.returns-in-Entry

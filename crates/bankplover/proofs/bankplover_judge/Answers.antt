@@ -1,5 +1,4 @@
 use Rattle.bankplover.specs.Judges.{judged, refused}
-use borrow.Author.Rules.{rules}
 use Rattle.bankplover.proofs.bankplover_judge.Goals as goal
 
 pub returns-in-Found : goal.returns-in-Found

@@ -1,4 +1,3 @@
-use borrow.Author.Rules.{rules}
 use Rattle.bankplover.proofs.bankplover_level_matches.Goals as goal
 
 pub returns : goal.returns

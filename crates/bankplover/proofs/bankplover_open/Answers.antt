@@ -1,6 +1,5 @@
 use mathlib.Core.Path.{refl}
 use Rattle.bankplover.specs.Books.{opened_number, opened_told, opened_cells}
-use borrow.Author.Rules.{rules}
 use Rattle.bankplover.proofs.bankplover_open.Goals as goal
 
 pub returns-in-Book : goal.returns-in-Book

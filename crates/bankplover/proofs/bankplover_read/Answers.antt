@@ -1,7 +1,4 @@
 use borrow.Author.Rules.{rules}
-use Rattle.bankplover.proofs.bankplover_read.Reads as reads
-use Rattle.bankplover.proofs.bankplover_read.Lts as lts
-use Rattle.reading.proofs.read.Reads as read-reads
 use Rattle.bankplover.proofs.bankplover_read.Goals as goal
 
 pub read-r-requires : goal.read-r-requires

@@ -1,11 +1,7 @@
-use Prim.Native.Nat.{◌-◌}
 use mathlib.Core.Path.{refl}
-use native.Mathlib.Omega.{arith}
-use borrow.Author.Rules.{rules}
-use borrow.Author.Tests.{not-true, not-false}
-use Rattle.base.proofs.Listed.{Filled, filled_none, filled_more, filled-all}
+use Rattle.base.proofs.Listed.{filled_none, filled_more, filled-all}
 use Rattle.judge.proofs.Squares.{formed_by}
-use Rattle.bankplover.specs.Judges.{bit_of, square_cells}
+use Rattle.bankplover.specs.Judges.{square_cells}
 use Rattle.bankplover.proofs.bankplover_square.Goals as goal
 
 pub returns-then-not-s : goal.returns-then-not-s

@@ -1,7 +1,5 @@
 use Prim.Native.Nat.{◌-◌}
-use native.Mathlib.Omega.{arith}
-use borrow.Author.Rules.{rules}
-use Rattle.base.proofs.Listed.{Filled, filled_none, filled_more, filled-all}
+use Rattle.base.proofs.Listed.{Filled}
 use Rattle.bankplover.specs.Books.{entry_number}
 use Rattle.bankplover.proofs.entry_numbers.Given as goal
 

@@ -1,6 +1,5 @@
 use Rattle.bankplover.specs.Books.{finding_from}
 use borrow.Author.Tests.{eq-eqb, ne_eqb}
-use borrow.Author.Rules.{rules}
 use Rattle.bankplover.proofs.finding_from.Goals as goal
 
 pub returns-then-letter-eq73 : goal.returns-then-letter-eq73

@@ -1,5 +1,4 @@
 use Rattle.bankplover.specs.Books.{letter_of}
-use borrow.Author.Rules.{rules}
 use Rattle.bankplover.proofs.letter_of.Goals as goal
 
 pub returns-in-Independent : goal.returns-in-Independent

@@ -1,6 +1,5 @@
 use Rattle.bankplover.specs.Books.{says_finding}
 use borrow.Author.Tests.{eq-eqb, ne_eqb}
-use borrow.Author.Rules.{rules}
 use Rattle.bankplover.proofs.says_finding.Goals as goal
 
 pub returns-then-letter-eq73 : goal.returns-then-letter-eq73

@@ -1,5 +1,4 @@
 use Rattle.bankplover.specs.Books.{says_value}
-use borrow.Author.Rules.{rules}
 use Rattle.bankplover.proofs.says_value.Goals as goal
 
 pub returns-in-Value : goal.returns-in-Value

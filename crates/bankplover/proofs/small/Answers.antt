@@ -1,6 +1,5 @@
 use Rattle.bankplover.specs.Books.{small_of}
 use borrow.Author.Tests.{le-ltb, lt-ltb}
-use borrow.Author.Rules.{rules}
 use Rattle.bankplover.proofs.small.Goals as goal
 
 pub returns-then-k-lt256 : goal.returns-then-k-lt256

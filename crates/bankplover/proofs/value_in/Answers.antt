@@ -1,5 +1,4 @@
 use Rattle.table.specs.Area.{or_x}
-use borrow.Author.Rules.{rules}
 use Rattle.bankplover.proofs.value_in.Goals as goal
 
 pub returns-in-Value : goal.returns-in-Value

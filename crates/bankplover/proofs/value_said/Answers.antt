@@ -1,5 +1,4 @@
 use Rattle.bankplover.specs.Books.{value_said}
-use borrow.Author.Rules.{rules}
 use Rattle.bankplover.proofs.value_said.Goals as goal
 
 pub returns : goal.returns

@@ -1,5 +1,4 @@
 use Rattle.bankplover.specs.Books.{witness_from}
-use borrow.Author.Rules.{rules}
 use Rattle.bankplover.proofs.witness_from.Goals as goal
 
 pub returns : goal.returns

@@ -1,5 +1,4 @@
 use Rattle.bankplover.specs.Books.{witness_number}
-use borrow.Author.Rules.{rules}
 use Rattle.bankplover.proofs.witness_number.Goals as goal
 
 pub returns-in-Independent : goal.returns-in-Independent

@@ -1,8 +1,4 @@
-use Prim.Native.Nat.{◌-◌}
-use native.Mathlib.Omega.{arith}
-use borrow.Author.Rules.{rules}
-use Rattle.base.proofs.Listed.{Filled, filled_none, filled_more, filled-all}
-use Rattle.bankplover.specs.Books.{witness_number}
+use Rattle.base.proofs.Listed.{filled_none, filled_more, filled-all}
 use Rattle.bankplover.proofs.witness_numbers.Goals as goal
 
 pub loop-k-init : goal.loop-k-init
