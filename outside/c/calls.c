@@ -1,5 +1,5 @@
 /* Document 01's `keep` through every call, compared with what the page says. It says what differs, and then ends
-   with 1. From the repository's root, after `rt staticlib bankplover`:
+   with 1. From the repository's root, after `outside/library`:
 
        cc -std=c11 -Ioutside outside/c/calls.c target/staticlib/libbankplover.a -o calls && ./calls */
 #include <stdio.h>

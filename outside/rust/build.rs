@@ -14,7 +14,7 @@ fn main() {
     println!("cargo:rerun-if-changed={}", archive.display());
     if !archive.is_file() {
         eprintln!("{} is missing.", archive.display());
-        eprintln!("Run `rt staticlib bankplover` at the repository's root first.");
+        eprintln!("Run `outside/library` at the repository's root first.");
         exit(1);
     }
     let elsewhere = env::var_os(ELSEWHERE).is_some();

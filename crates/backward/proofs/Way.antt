@@ -1,18 +1,17 @@
 -- The way back meets every entry, from the last to the first. Assumes nothing.
-use mathlib.Core.Path.{◌≡◌, refl, sym, ap, ap₂, ◌∙◌}
+use mathlib.Core.Path.{◌≡◌, refl, sym, ap, ◌∙◌}
 use mathlib.Core.Logic.{◌≢◌}
 use mathlib.Core.Bool.{Bool, true, false, cond}
-use mathlib.Core.List.{List, [], ◌∷◌, ◌++◌, append_assoc}
-use Prim.Native.Nat.{ℕ, zero, suc, ◌+◌, ◌-◌, ◌*◌, ◌/◌, ◌%◌, ◌≤◌, ◌<◌}
+use mathlib.Core.List.{List, ◌∷◌, ◌++◌, append_assoc}
+use Prim.Native.Nat.{ℕ, suc, ◌+◌, ◌-◌, ◌*◌, ◌/◌, ◌≤◌, ◌<◌}
 use native.Mathlib.Omega.{arith}
 use borrow.Author.Tests.{lt-ltb, le-ltb, ne_eqb, eq-eqb, ltb-true}
-use lib.Dec.{eqb, ltb}
-use lib.ListN.{length, get_or, take, drop, length-append}
-use lib.Seq.{get_or-append-add, get_or-append_seam}
+use lib.Dec.{ltb}
+use lib.ListN.{length, get_or, length-append}
+use lib.Seq.{get_or-append-add}
 use Rattle.files.specs.Parts.{join, between}
 use Rattle.files.specs.Files.{LF}
 use Rattle.files.proofs.Parts.{between_mid}
-use Rattle.verdict.specs.Verdict as words
 use Rattle.entry.specs.Entry.{space, digit_of, fields, trailer, entry}
 use Rattle.handed.specs.Handed.{Handed, verdict_of, fits_layout}
 use Rattle.line.specs.declared.Told.{Told}
@@ -21,7 +20,7 @@ use Rattle.line.proofs.Round.{entry_is, told_entry}
 use Rattle.book.specs.declared.Fetched.{Fetched}
 use Rattle.book.specs.declared.Fetched.TheVariants.{Entry, Refused}
 use Rattle.book.specs.Book.{entry_at}
-use Rattle.backward.specs.Back.{number_said, back, pointed, start_before, fetched_before}
+use Rattle.backward.specs.Back.{number_said, pointed, start_before, fetched_before}
 
 pub start_less : (f : List ℕ) (at : ℕ) → 0 < at → start_before f at < at
 unfolding start_before

@@ -1,5 +1,5 @@
 -- The way back through a book: each trailer points to the place where its entry starts.
-use Rattle.std.specs.Prelude.{cond, ◌&&◌, List, ℕ, ◌+◌, ◌-◌, ◌*◌, eqb, ltb, length, get_or}
+use Rattle.std.specs.Prelude.{cond, List, ℕ, ◌+◌, ◌-◌, ◌*◌, eqb, ltb, length, get_or}
 use Rattle.files.specs.Parts.{between}
 use Rattle.files.specs.Files.{LF}
 use Rattle.line.specs.Told.{told_by, is_entry}

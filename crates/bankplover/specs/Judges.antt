@@ -1,12 +1,11 @@
 -- What a program outside is told of reading and judging.
-use Rattle.std.specs.Prelude.{ℕ, ◌/◌, ◌%◌, ◌≡◌, Bool, true, false, cond, List, [], length, get_or}
+use Rattle.std.specs.Prelude.{ℕ, ◌/◌, ◌%◌, ◌≡◌, Bool, true, false, cond, List, [], get_or}
 use Rattle.base.specs.Listed.{listed}
 use Rattle.formed.specs.Tests.{well_formed}
 use Rattle.table.specs.Area.{decode}
 use Rattle.step.specs.Step.{step_of}
 use Rattle.verdict.specs.declared.Finding.{Finding}
 use Rattle.judge.specs.Judge.{RightFinding, square_for}
-use Rattle.reading.specs.declared.Reading.{Reading}
 use Rattle.reading.specs.declared.Reading.TheVariants as reads
 use Rattle.reading.specs.Told.{Out, out}
 use Rattle.bankplover.specs.Books.{letter_of, witness_number}

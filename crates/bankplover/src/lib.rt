@@ -1,7 +1,7 @@
 #![tactic(auto)]
 
 // Every public call for programs in C and in Rust. A call answers 0, or the number of a refusal, and tells through
-// `answer` what it was asked for, or the refusal's place.
+// `answer` what it was asked for, or the refusal's place. The crate bankplover_c exports each under its name.
 ghost use Rattle.std.specs.Prelude.{◌≡◌, ◌<◌, length, get_or, cond};
 ghost use Rattle.base.specs.Listed.{listed};
 ghost use Rattle.verdict.specs.declared.Finding.TheVariants.{Dependent};
@@ -25,13 +25,13 @@ use value::{Byte, Ternary};
 use verdict::{Finding, Witness};
 
 // How many numbers a witness, an opened book and an entry have; outside/bankplover.h has the same.
-const WITNESS: usize = 8;
+pub const WITNESS: usize = 8;
 
-const OPENED: usize = 3;
+pub const OPENED: usize = 3;
 
-const ENTRY: usize = 13;
+pub const ENTRY: usize = 13;
 
-const SQUARE: usize = 81;
+pub const SQUARE: usize = 81;
 
 // What reading answers where only blanks and comments remain: no refusal has this number.
 const END: u8 = 255;
@@ -48,16 +48,14 @@ fn value_in(b: u8) -> Ternary
 }
 
 // A level, by its letter, matches a value, by its byte.
-#[unsafe(no_mangle)]
-pub extern "C" fn bankplover_level_matches(level: u8, value: u8) -> bool
+pub fn bankplover_level_matches(level: u8, value: u8) -> bool
     ensures { result ≡ match_level (level_of level) (or_x (read_byte value)) }
 {
     symbol::level_matches(stored::level_of(level), value_in(value))
 }
 
 // A symbol, by its two stored bytes, matches a change.
-#[unsafe(no_mangle)]
-pub extern "C" fn bankplover_change_matches(first: u8, second: u8, from: u8, to: u8) -> bool
+pub fn bankplover_change_matches(first: u8, second: u8, from: u8, to: u8) -> bool
     ensures { result ≡ match_change (symbol_of first second) (or_x (read_byte from)) (or_x (read_byte to)) }
 {
     symbol::change_matches(
@@ -68,16 +66,14 @@ pub extern "C" fn bankplover_change_matches(first: u8, second: u8, from: u8, to:
 }
 
 // A lent table is well formed.
-#[unsafe(no_mangle)]
-pub extern "C" fn bankplover_well_formed(area: &[u8]) -> bool
+pub fn bankplover_well_formed(area: &[u8]) -> bool
     ensures { result ≡ well_formed area.now }
 {
     formed::well_formed(area)
 }
 
 // The output of an order, as a byte.
-#[unsafe(no_mangle)]
-pub extern "C" fn bankplover_evaluate(
+pub fn bankplover_evaluate(
     area: &[u8],
     prev: &[u8],
     cur: &[u8],
@@ -102,13 +98,7 @@ pub extern "C" fn bankplover_evaluate(
 }
 
 // Reads one primitive into an area.
-#[unsafe(no_mangle)]
-pub extern "C" fn bankplover_read(
-    text: &[u8],
-    start: usize,
-    area: &mut [u8],
-    answer: &mut usize,
-) -> u8
+pub fn bankplover_read(text: &[u8], start: usize, area: &mut [u8], answer: &mut usize) -> u8
     ensures { read_told (length text.now) (read_into text.now start area.old) ≡ told result answer.new area.new }
 {
     let r = reading::read(text, start, area);
@@ -141,12 +131,7 @@ fn witness_numbers(finding: Finding) -> [usize; WITNESS]
 }
 
 // Judges a table.
-#[unsafe(no_mangle)]
-pub extern "C" fn bankplover_judge(
-    area: &[u8],
-    witness: &mut [usize; WITNESS],
-    answer: &mut usize,
-) -> u8
+pub fn bankplover_judge(area: &[u8], witness: &mut [usize; WITNESS], answer: &mut usize) -> u8
     ensures { JudgeTold area.now result answer.new witness.old witness.new }
 {
     let j = judge::judge(area);
@@ -171,12 +156,7 @@ fn bit_of(s: &[[bool; base::INPUTS]; base::INPUTS], k: usize) -> u8
 }
 
 // The pairwise answers.
-#[unsafe(no_mangle)]
-pub extern "C" fn bankplover_square(
-    area: &[u8],
-    square: &mut [u8; SQUARE],
-    answer: &mut usize,
-) -> u8
+pub fn bankplover_square(area: &[u8], square: &mut [u8; SQUARE], answer: &mut usize) -> u8
     ensures value { result ≡ cond (well_formed area.now) 0 10 }
     ensures cells { square.new ≡ square_cells area.now square.old }
     ensures told { answer.new ≡ 0 }
@@ -198,8 +178,7 @@ pub extern "C" fn bankplover_square(
 }
 
 // Opens a book of which `stated` bytes count.
-#[unsafe(no_mangle)]
-pub extern "C" fn bankplover_open(
+pub fn bankplover_open(
     book: &[u8],
     stated: usize,
     opened: &mut [usize; OPENED],
@@ -315,8 +294,7 @@ fn append_to(
 }
 
 // Appends a verdict.
-#[unsafe(no_mangle)]
-pub extern "C" fn bankplover_append(
+pub fn bankplover_append(
     book: &mut [u8],
     stated: usize,
     name: &[u8],
@@ -352,6 +330,7 @@ fn letter_of(finding: Finding) -> u8
     }
 }
 
+#[tactic(auto, unfolding(crate::specs::Books::witness_number))]
 fn number_in(w: Witness, k: usize) -> usize
     ensures { result ≡ witness_number (Dependent w) k }
 {
@@ -381,6 +360,7 @@ fn witness_number(finding: Finding, k: usize) -> usize
     }
 }
 
+#[tactic(auto, unfolding(crate::specs::Books::entry_number))]
 fn entry_number(e: book::Entry, k: usize) -> usize
     ensures { result ≡ entry_number e k }
 {
@@ -408,8 +388,7 @@ fn entry_numbers(e: book::Entry) -> [usize; ENTRY]
 }
 
 // Fetches entry k, counted from 1.
-#[unsafe(no_mangle)]
-pub extern "C" fn bankplover_fetch(
+pub fn bankplover_fetch(
     book: &[u8],
     stated: usize,
     k: usize,

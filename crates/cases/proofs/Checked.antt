@@ -1,5 +1,5 @@
 -- Every case of the table holds. Assumes nothing.
-use mathlib.Core.Path.{◌≡◌, refl}
+use mathlib.Core.Path.{refl}
 use Rattle.base.specs.Search.{every, first, first_from}
 use Rattle.value.specs.Value.{rank_of, same_value}
 use Rattle.symbol.specs.Match.{match_level, match_edge, match_held, match_change, match_field, result_of}

@@ -1,7 +1,7 @@
 -- What is the same in every lane is the same for every vector. Assumes nothing.
 use Prim.Native.Nat.{ℕ, zero, suc, ◌+◌, ◌-◌, ◌*◌, ◌/◌, ◌%◌, ◌^◌, ◌<◌, ◌≤◌}
 use mathlib.Core.Path.{◌≡◌, refl, sym, ap, ◌∙◌}
-use mathlib.Core.Bool.{Bool, true, false, cond, ◌||◌, or-true}
+use mathlib.Core.Bool.{Bool, true, or-true}
 use mathlib.Core.List.{List}
 use mathlib.Core.Logic.{◌≢◌}
 use native.Mathlib.Nat.{mul_comm}
@@ -18,7 +18,6 @@ use Rattle.orders.proofs.Digits.{digit_is, digit_low, digit_le, put_is, put_lt}
 use Rattle.memo.specs.Rows.{all_rows, cell_at, rest_of}
 use Rattle.memo.specs.Pair.{others_of, first_then, second_then}
 use Rattle.memo.proofs.Others.{others_comm, others_put, rest_others, digit_same, digit_other}
-use Rattle.planes.specs.Words.{bit}
 use Rattle.exchange.specs.Lanes.{Agree, Given}
 use Rattle.exchange.specs.Pairs.{Tells}
 use Rattle.planes.proofs.Planes.{last_of}

@@ -1,14 +1,13 @@
 -- In a valid table it does not matter which of several matching rows answers: any level row that matches gives the answer, and where none
 -- does any row that matches with its edge in the considered column. Assumes nothing.
-use Prim.Native.Nat.{ℕ, zero, suc, ◌-◌, ◌≤◌, ◌<◌}
+use Prim.Native.Nat.{ℕ, ◌-◌, ◌≤◌, ◌<◌}
 use mathlib.Core.Path.{◌≡◌, refl, sym, ap, ◌∙◌}
 use mathlib.Core.Logic.{◌≢◌, ⊎_elim}
-use mathlib.Core.Bool.{Bool, true, false, cond, ◌&&◌}
+use mathlib.Core.Bool.{Bool, true, false}
 use mathlib.Core.List.{List}
 use native.Mathlib.Decide.{ℕ_discrete}
 use native.Mathlib.Nat.{eq-or-lt_of_le}
 use native.Mathlib.Omega.{arith}
-use lib.Dec.{eqb, ltb}
 use lib.ListN.{length, get_or}
 use borrow.Author.Tests.{eq-eqb, ne_eqb, lt-ltb, le-ltb}
 use Rattle.base.specs.Search.{every, first}
@@ -17,12 +16,12 @@ use Rattle.base.proofs.Search.{every_at, first_found, first_none, first_le, firs
 use Rattle.value.specs.declared.Ternary.{Ternary}
 use Rattle.value.specs.declared.Ternary.TheVariants.{V0, Vx}
 use Rattle.symbol.specs.declared.Output.{Output}
-use Rattle.symbol.specs.Match.{match_field, match_held, match_change, is_edge, result_of}
+use Rattle.symbol.specs.Match.{match_field, is_edge, result_of}
 use Rattle.stored.specs.Stored.{output_byte}
 use Rattle.symbol.proofs.Meet.{level_is_held, change_is_edge}
 use Rattle.table.specs.Table.{Row, Table, row_at, symbol_at}
 use Rattle.table.specs.Match.{field_of, columns_match, row_matches, edge_at}
-use Rattle.formed.specs.Valid.{Contradict, Valid}
+use Rattle.formed.specs.Valid.{Valid}
 use Rattle.formed.proofs.Contradiction.{same_output_lem}
 use Rattle.step.specs.Step.{row_for, answer_or, answer_of}
 

@@ -1,9 +1,9 @@
 -- What the bytes of a call say. Assumes nothing.
 use Prim.Native.Nat.{ℕ, zero, suc, ◌≤◌, ◌<◌}
 use mathlib.Core.Path.{◌≡◌, refl, sym, ◌∙◌}
-use mathlib.Core.Logic.{◌≢◌, ◌↔◌, ⊎_elim}
+use mathlib.Core.Logic.{⊎_elim}
 use mathlib.Core.Bool.{Bool, true, false, ◌&&◌, ◌||◌}
-use mathlib.Core.List.{List, [], ◌∷◌, map}
+use mathlib.Core.List.{List, [], ◌∷◌}
 use native.Mathlib.Nat.{pos_of_ne-zero}
 use native.Mathlib.Omega.{arith}
 use lib.Dec.{eqb, ltb}
@@ -12,7 +12,6 @@ use borrow.Author.Tests.{eqb-true, eqb-false, eq-eqb, ne_eqb, le-ltb, ltb-false}
 use Rattle.base.specs.Search.{every, some}
 use Rattle.base.proofs.Search.{some_at, some_none, first_none, first_below}
 use Rattle.base.proofs.Bools.{both, clash, lt_or_ge}
-use Rattle.base.specs.Listed.{listed}
 use Rattle.base.specs.Limits.{input_limit}
 use Rattle.base.proofs.Listed.{listed_length, listed_at, listed_past}
 use Rattle.value.specs.declared.Ternary.{Ternary}

@@ -1,5 +1,5 @@
 -- Two steps one after the other, in all lanes at once. Three words that follow each other tell what a step gives for each old output.
-use Rattle.std.specs.Prelude.{ℕ, ◌+◌, ◌*◌, ◌/◌, ◌%◌, Bool, true, cond, ◌&&◌, List, [], eqb, get_or}
+use Rattle.std.specs.Prelude.{ℕ, ◌+◌, ◌/◌, ◌%◌, Bool, true, cond, ◌&&◌, List, [], eqb, get_or}
 use Rattle.std.specs.Int.Bits.{bit_and, bit_or, bit_xor}
 use Rattle.exchange.specs.Lanes.{steps_at}
 

@@ -6,7 +6,7 @@ use mathlib.Core.Option.{Option, none, some}
 use Prim.Native.Nat.{ℕ}
 use Rattle.base.proofs.Bools.{clash}
 use Rattle.symbol.specs.declared.Level.{Level}
-use Rattle.symbol.specs.declared.Level.TheVariants.{Zero, One, Unknown, Binary, Any}
+use Rattle.symbol.specs.declared.Level.TheVariants.{Any}
 use Rattle.symbol.specs.declared.Symbol.{Symbol}
 use Rattle.symbol.specs.declared.Symbol.TheVariants.{Held, Edge, Rise, Fall, Positive, Negative, Every}
 use Rattle.symbol.specs.declared.Output.{Output}

@@ -1,7 +1,6 @@
 -- What the code's answers on a row's fields mean.
 use Rattle.std.specs.Prelude.{List, Bool, true, false, not, ℕ, drop}
 use Rattle.std.proofs.Math.Option.{Option, none, some}
-use Prim.Native.Char.{code}
 use Rattle.symbol.specs.declared.Level.{Level}
 use Rattle.symbol.specs.declared.Level.TheVariants.{Any}
 use Rattle.symbol.specs.declared.Symbol.{Symbol}

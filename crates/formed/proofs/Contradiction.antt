@@ -1,14 +1,13 @@
 -- The column-wise test finds exactly the rows that contradict each other. Assumes nothing.
 use Prim.Native.Nat.{ℕ, ◌<◌, ◌≤◌}
 use mathlib.Core.Path.{◌≡◌, refl, sym, ap, ◌∙◌}
-use mathlib.Core.Bool.{Bool, true, false, not, cond, ◌&&◌}
+use mathlib.Core.Bool.{Bool, true, false, not, cond}
 use mathlib.Core.Logic.{⊎_elim}
 use native.Mathlib.Omega.{arith}
 use lib.Dec.{eqb}
 use lib.ListN.{get_or}
 use borrow.Author.Tests.{eqb-true, eqb-false, ne_eqb, not-true}
-use Rattle.base.specs.Search.{every, first}
-use Rattle.base.proofs.Bools.{both, and, clash, lt_or_ge}
+use Rattle.base.proofs.Bools.{both, and, lt_or_ge}
 use Rattle.base.proofs.Search.{every_at, every_of, first_holds, first_same}
 use Rattle.base.proofs.Listed.{chosen}
 use Rattle.value.specs.declared.Ternary.{Ternary}

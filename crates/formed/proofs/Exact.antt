@@ -1,7 +1,7 @@
 -- An area is well formed exactly where it is the encoding of a valid table. Assumes nothing.
 use Prim.Native.Nat.{ℕ, ◌<◌, ◌≤◌}
 use mathlib.Core.Path.{◌≡◌, refl, sym, ap, ◌∙◌}
-use mathlib.Core.Bool.{Bool, true, false, not, ◌&&◌, ◌||◌}
+use mathlib.Core.Bool.{Bool, true, false, not, ◌||◌}
 use mathlib.Core.Logic.{◌↔◌}
 use mathlib.Core.List.{List}
 use native.Mathlib.Omega.{arith}
@@ -9,7 +9,6 @@ use lib.Dec.{eqb, leb}
 use lib.ListN.{length}
 use borrow.Author.Tests.{eqb-true, eq-eqb, le-leb, leb-true, not-true}
 use Rattle.base.specs.Limits.{input_limit, row_limit, name_limit}
-use Rattle.base.specs.Search.{every}
 use Rattle.base.proofs.Bools.{both, and, clash}
 use Rattle.base.proofs.Search.{every_at, every_of}
 use Rattle.value.specs.declared.Ternary.{Ternary}

@@ -1,15 +1,13 @@
 -- The test of a row decides what a valid row is. Assumes nothing.
 use Prim.Native.Nat.{ℕ, ◌<◌, ◌≤◌}
 use mathlib.Core.Path.{◌≡◌, refl, sym, ap, ◌∙◌}
-use mathlib.Core.Bool.{Bool, true, false, not, ◌&&◌, ◌||◌}
+use mathlib.Core.Bool.{Bool, true, false, not, ◌||◌}
 use native.Mathlib.Omega.{arith}
 use lib.Dec.{eqb}
 use lib.ListN.{length}
 use borrow.Author.Tests.{eqb-true, eqb-false, eq-eqb, ne_eqb, not-true}
-use Rattle.base.specs.Search.{every, first}
 use Rattle.base.proofs.Bools.{both, and, clash}
 use Rattle.base.proofs.Search.{every_at, every_of, first_below, first_holds, first_le, first_none}
-use Rattle.symbol.specs.declared.Level.TheVariants.{Any}
 use Rattle.symbol.specs.declared.Symbol.{Symbol}
 use Rattle.symbol.specs.declared.Output.TheVariants.{Old}
 use Rattle.symbol.specs.Match.{is_edge, possible}

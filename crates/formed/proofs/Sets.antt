@@ -1,6 +1,6 @@
 -- What the cells of a row tell of its columns. Assumes nothing.
-use Prim.Native.Nat.{ℕ, ◌+◌, ◌%◌, ◌<◌, ◌≤◌}
-use mathlib.Core.Path.{◌≡◌, refl, sym, ap, ◌∙◌}
+use Prim.Native.Nat.{ℕ, ◌+◌, ◌%◌, ◌<◌}
+use mathlib.Core.Path.{◌≡◌, sym, ap, ◌∙◌}
 use mathlib.Core.Bool.{Bool, true, false, not, ◌&&◌, ◌||◌}
 use mathlib.Core.List.{List, []}
 use mathlib.Core.Logic.{⊎_elim}
@@ -8,18 +8,18 @@ use native.Mathlib.Nat.{eq-or-lt_of_le}
 use native.Mathlib.Omega.{arith}
 use lib.Bits.{bit_and}
 use lib.Dec.{eqb}
-use lib.ListN.{length, set, get_or, length-set}
+use lib.ListN.{length, set, length-set}
 use lib.Seq.{get_or-set_same, get_or-set_other}
 use borrow.Author.Tests.{eq-eqb, ne_eqb}
 use Rattle.base.specs.Limits.{input_limit, row_limit}
 use Rattle.symbol.specs.declared.Symbol.{Symbol}
 use Rattle.symbol.specs.declared.Symbol.TheVariants.{Held}
 use Rattle.symbol.specs.declared.Output.{Output}
-use Rattle.symbol.specs.Match.{is_edge, meet, possible}
+use Rattle.symbol.specs.Match.{is_edge, meet}
 use Rattle.symbol.specs.Masks.{offers}
 use Rattle.stored.specs.Stored.{output_byte}
 use Rattle.symbol.proofs.Offers.{meet_offers, possible_offers, edge_offers}
-use Rattle.table.specs.Table.{Row, Table, row_at, symbol_at}
+use Rattle.table.specs.Table.{Row, Table, symbol_at}
 use Rattle.formed.specs.Tests.{same_output, levels_meet, columns_meet, contradict, column_valid}
 use Rattle.formed.specs.Cells.{state_cell, output_cell, cell_count, Cells, CellsOf, RowCells}
 

@@ -1,7 +1,7 @@
 -- The two orders of a pair agree for every vector exactly where no candidate differs. Assumes nothing.
 use Prim.Native.Nat.{ℕ, zero, suc, ◌+◌, ◌-◌, ◌*◌, ◌/◌, ◌%◌, ◌^◌, ◌<◌, ◌≤◌}
 use mathlib.Core.Path.{◌≡◌, refl, sym, ◌∙◌}
-use mathlib.Core.Bool.{Bool, true, false, ◌||◌, or-true}
+use mathlib.Core.Bool.{true, false, ◌||◌, or-true}
 use mathlib.Core.List.{List}
 use native.Mathlib.Nat.{pow-suc}
 use native.Mathlib.Omega.{arith}
@@ -10,7 +10,7 @@ use borrow.Author.Tests.{eq-eqb, eqb-true, not-false}
 use Rattle.base.proofs.Search.{first_none, first_below}
 use Rattle.table.specs.Table.{Table}
 use Rattle.orders.specs.Verdict.{candidates}
-use Rattle.orders.specs.Digits.{digit_of, put_digit}
+use Rattle.orders.specs.Digits.{put_digit}
 use Rattle.orders.proofs.Digits.{digit_is, put_lt}
 use Rattle.memo.specs.Rows.{cells, all_rows}
 use Rattle.memo.specs.Pair.{others_of, first_then, second_then}

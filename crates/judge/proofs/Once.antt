@@ -1,22 +1,14 @@
 -- No two answers of the judge are right; what its answers say of the definition; what the square's answers say. Assumes nothing.
-use Prim.Native.Nat.{ℕ, suc, ◌/◌, ◌<◌, ◌≤◌}
+use Prim.Native.Nat.{ℕ}
 use mathlib.Core.Path.{◌≡◌, refl, sym, ap, ◌∙◌}
-use mathlib.Core.Logic.{◌≢◌, ◌↔◌}
-use mathlib.Core.Bool.{Bool, true, false, not, ◌&&◌, ◌||◌}
+use mathlib.Core.Logic.{◌↔◌}
 use mathlib.Core.List.{List}
 use native.Mathlib.Omega.{arith}
-use lib.Dec.{ltb}
-use borrow.Author.Tests.{lt-ltb, le-ltb}
-use Rattle.base.specs.Search.{some}
 use Rattle.base.proofs.Bools.{clash}
-use Rattle.base.proofs.Search.{some_at, some_is, some_none}
 use Rattle.value.specs.declared.Ternary.{Ternary}
-use Rattle.value.specs.Value.{same_value}
 use Rattle.table.specs.Area.{decode}
-use Rattle.formed.specs.Tests.{well_formed}
 use Rattle.orders.specs.Order as order
-use Rattle.orders.specs.Pairs.{PairAgrees}
-use Rattle.orders.specs.Verdict.{dependent, candidates, first_output, second_output, First}
+use Rattle.orders.specs.Verdict.{dependent}
 use Rattle.orders.proofs.Places.{every_family}
 use Rattle.orders.proofs.Answers.{same_first, first_dependent}
 use Rattle.step.specs.Step.{step_of}

@@ -1,10 +1,9 @@
 -- A right finding can stand in the book, and its witness tells what the two orders give. Assumes nothing.
-use Prim.Native.Nat.{ℕ, ◌/◌, ◌^◌, ◌<◌, ◌≤◌}
-use mathlib.Core.Path.{◌≡◌, refl, sym, ◌∙◌}
-use mathlib.Core.Logic.{◌≢◌}
+use Prim.Native.Nat.{ℕ}
+use mathlib.Core.Path.{◌≡◌}
 use native.Mathlib.Omega.{arith}
 use Rattle.orders.specs.Order.{Step, Laws, eval_order, Every}
-use Rattle.orders.specs.Verdict.{candidates, First}
+use Rattle.orders.specs.Verdict.{First}
 use Rattle.orders.proofs.Candidates.{both_change}
 use Rattle.verdict.specs.declared.Witness.{Witness}
 use Rattle.verdict.specs.declared.Finding.{Finding}

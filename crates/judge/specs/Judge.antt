@@ -1,5 +1,5 @@
 -- What the judge promises: document 01, "One step and one order".
-use Rattle.std.specs.Prelude.{ℕ, suc, ◌/◌, ◌≡◌, Bool, true, false, not, cond, ◌&&◌, ◌||◌, List, ltb}
+use Rattle.std.specs.Prelude.{ℕ, suc, ◌/◌, ◌≡◌, Bool, false, not, cond, ◌&&◌, ◌||◌, List, ltb}
 use Rattle.base.specs.Limits.{input_limit}
 use Rattle.base.specs.Listed.{listed}
 use Rattle.base.specs.Search.{some}

@@ -1,15 +1,14 @@
 -- What it tells that a verdict's line stands in a book. Assumes nothing.
-use Prim.Native.Nat.{ℕ, suc, ◌+◌, ◌-◌, ◌≤◌, ◌<◌}
+use Prim.Native.Nat.{ℕ, suc, ◌+◌, ◌≤◌, ◌<◌}
 use mathlib.Core.Path.{◌≡◌, refl, sym, ap, subst, ◌∙◌}
 use mathlib.Core.Logic.{◌≢◌, ⊎_elim}
 use mathlib.Core.Bool.{Bool, true, false, cond, ◌&&◌}
 use mathlib.Core.List.{List, [], ◌∷◌, ◌++◌}
 use native.Mathlib.Omega.{arith}
 use borrow.Author.Tests.{eqb-true}
-use lib.Dec.{eqb}
 use lib.ListN.{length, get_or, take, drop, length-append, length-drop, get_or-eq_default}
 use lib.Seq.{take-add, length-take-le, get_or-take, get_or-drop, get_or-append_seam, ext_get_or}
-use Rattle.base.proofs.Bools.{clash, lt_or_ge}
+use Rattle.base.proofs.Bools.{lt_or_ge}
 use Rattle.base.proofs.Search.{every_at}
 use Rattle.verdict.specs.Verdict as words
 use Rattle.verdict.specs.declared.Finding.{Finding}

@@ -1,7 +1,7 @@
 -- One turn: from the verdict that comes next to what is answered, and how far a reading goes. Assumes nothing.
 use Prim.Native.Nat.{ℕ, ◌+◌, ◌≤◌, ◌<◌}
 use mathlib.Core.Path.{◌≡◌, ap}
-use mathlib.Core.Logic.{◌⊎◌, inr}
+use mathlib.Core.Logic.{inr}
 use mathlib.Core.List.{List}
 use native.Mathlib.Omega.{arith}
 use lib.ListN.{length}

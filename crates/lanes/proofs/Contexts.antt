@@ -1,18 +1,17 @@
 -- Every vector of the other columns is a context of the outer columns and a lane. Assumes nothing.
 use Prim.Native.Nat.{ℕ, zero, suc, ◌+◌, ◌-◌, ◌*◌, ◌/◌, ◌%◌, ◌<◌, ◌≤◌}
-use mathlib.Core.Path.{◌≡◌, refl, sym, ap, ◌∙◌}
+use mathlib.Core.Path.{◌≡◌, refl, sym, ◌∙◌}
 use mathlib.Core.Bool.{Bool, true, false, cond, ◌&&◌, ◌||◌}
 use mathlib.Core.List.{List}
 use mathlib.Core.Logic.{⊎_elim}
 use native.Mathlib.Omega.{arith}
 use lib.Bits.{bit_and}
 use lib.Dec.{eqb}
-use lib.ListN.{length, get_or}
+use lib.ListN.{length}
 use Rattle.base.specs.Limits.{row_limit}
 use Rattle.base.proofs.Bools.{lt_or_ge}
 use Rattle.table.specs.Table.{Table}
-use Rattle.symbol.specs.Masks.{mask_of}
-use Rattle.memo.specs.Rows.{all_rows, cells, cell_at}
+use Rattle.memo.specs.Rows.{all_rows, cell_at}
 use Rattle.memo.specs.Pair.{others_of}
 use Rattle.planes.specs.Words.{bit}
 use Rattle.lanes.specs.Columns.{top_of, matching, lane_at, Lanes}
@@ -23,9 +22,7 @@ use Rattle.lanes.specs.Pairs.{OuterTell}
 use Rattle.planes.proofs.Bits.{bit_and_lem, bit_ext, bit_past}
 use Rattle.planes.proofs.Answers.{row_in}
 use Rattle.planes.proofs.Planes.{last_of}
-use Rattle.plain.specs.Plain.{Only, Plain}
-use Rattle.plain.proofs.Alike.{plain_agree}
-use Rattle.lanes.proofs.Tops.{matching_bit, matching_past, matching_in}
+use Rattle.lanes.proofs.Tops.{matching_bit, matching_past}
 
 -- the digits of the columns other than i and j
 squeeze : ℕ → ℕ → ℕ → ℕ → ℕ

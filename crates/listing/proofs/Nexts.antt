@@ -11,22 +11,18 @@ use Rattle.table.specs.Places.{area_size}
 use Rattle.table.specs.Table.{Table}
 use Rattle.table.specs.Area.{encode, decode}
 use Rattle.formed.specs.Tests.{well_formed}
-use Rattle.formed.specs.Valid.{Valid}
 use Rattle.formed.proofs.Exact.{of_formed, formed_table}
 use Rattle.step.specs.Step.{step_of}
 use Rattle.grammar.specs.Reading.{table, end, refusal, read}
 use Rattle.grammar.specs.Reading as grammar
 use Rattle.grammar.proofs.Gives.{read_valid}
 use Rattle.grammar.proofs.Moves.{read_forward}
-use Rattle.reading.specs.declared.Reading.{Reading}
 use Rattle.reading.specs.declared.Reading.TheVariants as reads
 use Rattle.reading.specs.Told.{Out, out, told, read_into}
 use Rattle.verdict.specs.declared.Finding.{Finding}
-use Rattle.judge.specs.declared.Judged.{Judged}
 use Rattle.judge.specs.declared.Judged.TheVariants.{Found, Refused}
 use Rattle.judge.specs.Answer.{Right}
 use Rattle.judge.specs.Judge.{RightFinding}
-use Rattle.listing.specs.declared.Next.{Next}
 use Rattle.listing.specs.declared.Next.TheVariants.{Verdict}
 use Rattle.listing.specs.Next.{NextIs}
 

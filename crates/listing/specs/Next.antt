@@ -1,5 +1,5 @@
 -- The verdict of the next primitive of a text.
-use Rattle.std.specs.Prelude.{ℕ, ◌+◌, ◌≡◌, Bool, List, [], ◌∷◌, ◌++◌, eqb, length, get_or}
+use Rattle.std.specs.Prelude.{ℕ, ◌+◌, ◌≡◌, Bool, List, [], ◌∷◌, ◌++◌, eqb, get_or}
 use Rattle.base.specs.Search.{every}
 use Rattle.table.specs.Table.{Table}
 use Rattle.table.specs.Area.{encode}

@@ -1,13 +1,11 @@
 -- The sets of rows of a column, row by row. Assumes nothing.
 use Prim.Native.Nat.{ℕ, zero, suc, ◌+◌, ◌-◌, ◌*◌, ◌/◌, ◌%◌, ◌^◌, ◌<◌, ◌≤◌}
-use mathlib.Core.Path.{◌≡◌, refl, sym, ◌∙◌}
+use mathlib.Core.Path.{◌≡◌, sym, ◌∙◌}
 use mathlib.Core.Bool.{Bool, cond}
 use mathlib.Core.List.{List}
-use mathlib.Core.Logic.{⊎_elim}
-use native.Mathlib.Nat.{eq-or-lt_of_le, pow-suc, div-div-eq-div-mul, mul_comm, div-one, add-zero, zero-add}
+use native.Mathlib.Nat.{pow-suc, div-div-eq-div-mul, mul_comm, div-one, add-zero, zero-add}
 use native.Mathlib.Omega.{arith}
 use lib.ListN.{length, get_or, set, replicate, length-replicate, get_or-replicate}
-use lib.Seq.{get_or-set_same, get_or-set_other}
 use borrow.Author.Tests.{lt-ltb, le-ltb}
 use Rattle.base.specs.Listed.{listed}
 use Rattle.base.proofs.Listed.{listed_is, listed_length, listed_at}

@@ -1,5 +1,5 @@
 -- Where every row is steady and matches no change of the two columns, their orders agree. Assumes nothing.
-use Prim.Native.Nat.{ℕ, zero, suc, ◌+◌, ◌-◌, ◌*◌, ◌^◌, ◌<◌, ◌≤◌}
+use Prim.Native.Nat.{ℕ, ◌+◌, ◌*◌, ◌^◌, ◌<◌}
 use mathlib.Core.Path.{◌≡◌, refl, sym, ap, ◌∙◌}
 use mathlib.Core.Bool.{Bool, true, false, cond, ◌&&◌}
 use mathlib.Core.List.{List}
@@ -9,10 +9,8 @@ use native.Mathlib.Omega.{arith}
 use lib.Bits.{bit_and, and_le_l, and_le_r}
 use lib.Count.{count_trailing_zeros}
 use lib.Dec.{eqb}
-use lib.ListN.{get_or}
 use borrow.Author.Tests.{eqb-true, eq-eqb, ne_eqb}
 use Rattle.base.proofs.Bools.{clash}
-use Rattle.value.specs.Value.{rank_of, value_of}
 use Rattle.table.specs.Table.{Table}
 use Rattle.step.specs.Step.{answer_or}
 use Rattle.memo.specs.Rows.{cell_at, out_by, entry_of}

@@ -1,11 +1,11 @@
 -- The whole primitive. Assumes nothing.
-use mathlib.Core.Path.{◌≡◌, refl, sym, ap, ◌∙◌}
-use mathlib.Core.List.{List, [], ◌∷◌, ◌++◌, append-nil}
-use mathlib.Core.Bool.{Bool, true, false}
+use mathlib.Core.Path.{◌≡◌, refl, sym, ◌∙◌}
+use mathlib.Core.List.{List, []}
+use mathlib.Core.Bool.{Bool}
 use Prim.Native.Nat.{ℕ, ◌≤◌, ◌<◌}
 use native.Mathlib.Omega.{arith}
-use lib.ListN.{length, take, drop, drop_of_length-le}
-use lib.Seq.{drop-cons, take-length}
+use lib.ListN.{length, drop, drop_of_length-le}
+use lib.Seq.{drop-cons}
 use borrow.Author.Tests.{eq-eqb, le-leb, leb-true}
 use Rattle.base.specs.Limits.{input_limit, name_limit, row_limit, text_limit}
 use Rattle.value.specs.declared.Ternary.{Ternary}
@@ -15,7 +15,7 @@ use Rattle.table.specs.Area.{encode, decode}
 use Rattle.table.proofs.Encoding.{decode_encode}
 use Rattle.writing.specs.Written.{head_of, head_fits, head_written}
 use Rattle.text.specs.Bytes.{bytes}
-use Rattle.text.specs.Reader.{Result, got, refused, Reader, bind, ◌>>=◌, ◌>>◌, give, skip, keyword, Named, name}
+use Rattle.text.specs.Reader.{Result, got, refused, Reader, bind, ◌>>=◌, give, skip, keyword, Named, name}
 use Rattle.text.specs.Places.{meant, named, part}
 use Rattle.text.specs.declared.Step.{Step}
 use Rattle.text.specs.declared.Step.TheVariants.{At, Refused}

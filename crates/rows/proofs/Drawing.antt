@@ -9,11 +9,10 @@ use native.Mathlib.Omega.{arith}
 use lib.ListN.{length, get_or, drop, length-append, get_or-append}
 use lib.Seq.{get_or_at}
 use Rattle.base.specs.Limits.{input_limit, row_limit, name_limit}
-use Rattle.base.specs.Search.{every}
 use Rattle.base.proofs.Search.{every_same}
 use Rattle.value.specs.declared.Ternary.{Ternary}
-use Rattle.table.specs.Places.{inputs_at, area_size}
-use Rattle.table.specs.Table.{Row, Table, Bounded, Shaped, row_at, no_row, with_row}
+use Rattle.table.specs.Places.{inputs_at}
+use Rattle.table.specs.Table.{Row, Table, Shaped, no_row, with_row}
 use Rattle.table.specs.Area.{encode, decode}
 use Rattle.table.proofs.Encoding.{decode_encode, decode_inputs}
 use Rattle.formed.specs.Tests.{contradict, row_agrees}
@@ -25,7 +24,7 @@ use Rattle.text.specs.Places.{meant}
 use Rattle.text.specs.declared.Step.{Step}
 use Rattle.text.specs.declared.Step.TheVariants.{At, Refused}
 use Rattle.grammar.proofs.Post.{Gives, after, past, given}
-use Rattle.text.specs.Reader.{Result, got, refused, bind, ◌>>=◌, ◌>>◌, give, check, if, skip, ahead, keyword}
+use Rattle.text.specs.Reader.{got, refused, bind, ◌>>=◌, ◌>>◌, give, check, if, skip, keyword}
 use Rattle.grammar.specs.Rows.{columns, row, rows, agrees, begins_row, no_rows}
 use Rattle.text.specs.Blanks.{begins}
 use Rattle.text.proofs.Readlaws.{ahead_is}

@@ -1,5 +1,5 @@
 -- What writing leaves in an area: a table without rows, and one row more.
-use Rattle.std.specs.Prelude.{ℕ, ◌+◌, ◌-◌, ◌*◌, Bool, cond, ◌&&◌, List, [], eqb, leb, ltb, length, get_or, take}
+use Rattle.std.specs.Prelude.{ℕ, ◌+◌, ◌-◌, Bool, cond, ◌&&◌, List, [], eqb, leb, ltb, length, get_or, take}
 use Rattle.base.specs.Limits.{input_limit, row_limit, name_limit}
 use Rattle.base.specs.Listed.{listed}
 use Rattle.value.specs.declared.Ternary.{Ternary}

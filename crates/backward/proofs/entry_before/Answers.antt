@@ -1,10 +1,8 @@
 use native.Mathlib.Omega.{arith}
-use borrow.Author.Rules.{rules}
 use Rattle.backward.proofs.Way.{start_less, before_none, before_past, before_torn, before_entry, before_other}
 use Rattle.backward.proofs.entry_before.Goals as goal
 
 -- `reader::entry_before` meets its contract. Assumes nothing.
-use Prim.Native.Nat.{◌-◌}
 
 pub returns-then-at-eq0 : goal.returns-then-at-eq0
 returns-then-at-eq0 c = before_none _ _ c.if-at-eq0.true

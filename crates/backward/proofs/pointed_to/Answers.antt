@@ -1,10 +1,8 @@
-use borrow.Author.Rules.{rules}
 use borrow.Author.Tests.{lt-ltb, le-ltb}
 use Rattle.backward.specs.Back.{pointed}
 use Rattle.backward.proofs.pointed_to.Goals as goal
 
 -- `reader::pointed_to` meets its contract. Assumes nothing.
-use Prim.Native.Nat.{◌-◌}
 
 pub returns-then-at-lt6 : goal.returns-then-at-lt6
 unfolding pointed

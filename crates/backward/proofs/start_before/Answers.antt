@@ -1,10 +1,8 @@
-use borrow.Author.Rules.{rules}
 use borrow.Author.Tests.{lt-ltb, le-ltb}
 use Rattle.backward.specs.Back.{start_before}
 use Rattle.backward.proofs.start_before.Goals as goal
 
 -- `reader::start_before` meets its contract. Assumes nothing.
-use Prim.Native.Nat.{◌-◌}
 
 pub returns-then-s-at : goal.returns-then-s-at
 unfolding start_before

@@ -33,9 +33,9 @@ overflow_add-at-in-loop-k-2 c = omega (arith, c.shared_slice_known-1.given count
 pub loop-k-preserved : goal.loop-k-preserved
 loop-k-preserved c =
     let k = c.loop-k.k in (
-    omega arith,
-    rw (c.loop-k.invariant.1, c.stores_symbol-all.ensures, c.byte_at-b.ensures, c.byte_at-c.ensures)
-    (column_more c.args.a.now c.args.i c.requires.0 k (omega (arith, c.requires.1)) (omega (arith, c.requires.2))),
+      omega arith,
+      rw (c.loop-k.invariant.1, c.stores_symbol-all.ensures, c.byte_at-b.ensures, c.byte_at-c.ensures)
+          (column_more c.args.a.now c.args.i c.requires.0 k (omega (arith, c.requires.1)) (omega (arith, c.requires.2))),
     )
 
 pub returns : goal.returns

@@ -1,11 +1,7 @@
 use Prim.Native.Nat.{ℕ, ◌-◌, ◌/◌, ◌%◌, ◌≤◌}
-use mathlib.Core.Path.{◌≡◌, sym, ◌∙◌}
+use mathlib.Core.Path.{◌≡◌}
 use mathlib.Core.Bool.{true}
-use native.Mathlib.Omega.{arith}
-use borrow.Author.Rules.{rules}
-use borrow.Author.Tests.{eq-eqb, ne_eqb}
 use Rattle.base.specs.Search.{every}
-use Rattle.base.proofs.Search.{every_none, every_more, every_fails}
 use Rattle.cube.specs.Steps.{Tell, same_in}
 use Rattle.cube.proofs.all_agree.Given as goal
 

@@ -1,6 +1,5 @@
 use mathlib.Core.Path.{refl}
 use native.Mathlib.Omega.{arith}
-use borrow.Author.Rules.{rules}
 use Rattle.cube.proofs.Weights.{weight_low, times_low, copied_by}
 use Rattle.cube.proofs.copied.Goals as goal
 

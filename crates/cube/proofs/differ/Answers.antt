@@ -1,4 +1,3 @@
-use borrow.Author.Rules.{rules}
 use Rattle.cube.proofs.Comparing.{differ_by}
 use Rattle.cube.proofs.differ.Goals as goal
 

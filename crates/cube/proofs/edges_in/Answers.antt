@@ -1,5 +1,4 @@
 use mathlib.Core.Path.{refl}
-use borrow.Author.Rules.{rules}
 use Rattle.memo.specs.Rows.{cell_at}
 use Rattle.cube.proofs.edges_in.Goals as goal
 

@@ -1,8 +1,5 @@
-use Prim.Native.Nat.{◌-◌, ◌≤◌}
 use native.Mathlib.Omega.{arith}
-use borrow.Author.Rules.{rules}
-use Rattle.exchange.proofs.Each.{Each, each_none, each_more, each_all}
-use Rattle.cube.specs.Lanes.{RowLanes}
+use Rattle.exchange.proofs.Each.{each_none, each_more, each_all}
 use Rattle.cube.proofs.lanes.Goals as goal
 
 pub loop-r-init : goal.loop-r-init

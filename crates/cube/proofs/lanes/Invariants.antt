@@ -1,7 +1,5 @@
 use Prim.Native.Nat.{◌-◌, ◌≤◌}
-use native.Mathlib.Omega.{arith}
-use borrow.Author.Rules.{rules}
-use Rattle.exchange.proofs.Each.{Each, each_none, each_more, each_all}
+use Rattle.exchange.proofs.Each.{Each}
 use Rattle.cube.specs.Lanes.{RowLanes}
 use Rattle.cube.proofs.lanes.Given as goal
 

@@ -1,5 +1,4 @@
 use native.Mathlib.Omega.{arith}
-use borrow.Author.Rules.{rules}
 use Rattle.memo.specs.Rows.{cell_at}
 use Rattle.cube.proofs.Weights.{weight_low, column_by}
 use Rattle.cube.proofs.lanes_in.Goals as goal

@@ -1,4 +1,3 @@
-use borrow.Author.Rules.{rules}
 use Rattle.memo.specs.Rows.{cell_at}
 use Rattle.cube.proofs.Stepping.{levels_by}
 use Rattle.cube.proofs.levels.Goals as goal

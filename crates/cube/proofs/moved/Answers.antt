@@ -1,4 +1,3 @@
-use borrow.Author.Rules.{rules}
 use Rattle.cube.proofs.Weights.{moved_by}
 use Rattle.cube.proofs.moved.Goals as goal
 

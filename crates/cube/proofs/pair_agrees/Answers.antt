@@ -1,4 +1,3 @@
-use borrow.Author.Rules.{rules}
 use Rattle.plain.proofs.Telling.{plain_tells}
 use Rattle.cube.proofs.Telling.{tells_by}
 use Rattle.cube.proofs.pair_agrees.Goals as goal

@@ -1,5 +1,4 @@
 use mathlib.Core.Path.{refl}
-use borrow.Author.Rules.{rules}
 use Rattle.exchange.specs.Paths.{path_of}
 use Rattle.cube.proofs.path.Goals as goal
 

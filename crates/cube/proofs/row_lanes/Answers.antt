@@ -1,5 +1,4 @@
 use native.Mathlib.Omega.{arith}
-use borrow.Author.Rules.{rules}
 use Rattle.cube.specs.Lanes.{one, three, nine}
 use Rattle.cube.proofs.Matching.{two_columns, three_columns}
 use Rattle.cube.proofs.row_lanes.Goals as goal

@@ -1,5 +1,4 @@
 use native.Mathlib.Omega.{arith}
-use borrow.Author.Rules.{rules}
 use Rattle.cube.proofs.Stepping.{stays_by}
 use Rattle.cube.proofs.stays.Goals as goal
 

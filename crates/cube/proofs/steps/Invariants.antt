@@ -1,12 +1,7 @@
 use Prim.Native.Nat.{◌*◌, ◌-◌, ◌≤◌}
 use mathlib.Core.List.{[]}
-use mathlib.Core.Path.{refl, sym}
-use native.Mathlib.Nat.{add-zero}
-use native.Mathlib.Omega.{arith}
-use borrow.Author.Rules.{rules}
-use Rattle.exchange.proofs.Each.{Each, each_none, each_three, each_all}
-use Rattle.cube.proofs.Weights.{times_low}
-use Rattle.cube.proofs.Stepping.{Stepped, stepped_by, steps_by}
+use Rattle.exchange.proofs.Each.{Each}
+use Rattle.cube.proofs.Stepping.{Stepped}
 use Rattle.cube.proofs.steps.Given as goal
 
 abbrev pub invariant-loop-a : goal.invariant-loop-a

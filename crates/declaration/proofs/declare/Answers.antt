@@ -1,6 +1,5 @@
 use Rattle.text.specs.Reader.{◌>>=◌, check}
 use Rattle.declaration.specs.Declaration.{declare}
-use borrow.Author.Rules.{rules}
 use Rattle.declaration.proofs.declare.Goals as goal
 
 pub returns-in_default : goal.returns-in_default

@@ -6,10 +6,9 @@ use Rattle.text.proofs.Blanklaws.{one_room}
 use Rattle.text.proofs.Readlaws.{mark_at, byte_two, ahead_one, ahead_none}
 use lib.ListN.{drop}
 use borrow.Author.Tests.{not-true, not-false}
-use Prim.Native.Nat.{◌+◌, ◌-◌}
+use Prim.Native.Nat.{◌+◌}
 use native.Mathlib.Omega.{arith}
 use mathlib.Core.Path.{◌≡◌}
-use borrow.Author.Rules.{rules}
 use Rattle.declaration.proofs.read_constant.Goals as goal
 
 pub overflow_add-result : goal.overflow_add-result

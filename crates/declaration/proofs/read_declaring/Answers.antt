@@ -2,7 +2,6 @@ use Rattle.text.specs.Bytes.{bytes}
 use Rattle.text.proofs.Wordlaws.{same_eq}
 use Rattle.text.specs.Reader.{word}
 use mathlib.Core.Path.{sym, ◌∙◌}
-use borrow.Author.Rules.{rules}
 use Rattle.declaration.proofs.read_declaring.Goals as goal
 
 pub returns-then-same : goal.returns-then-same

@@ -6,7 +6,6 @@ use Rattle.text.proofs.Readlaws.{byte_nil, byte_cons}
 use borrow.Author.Tests.{ne_eqb}
 use Rattle.text.proofs.Sum.{cases}
 use mathlib.Core.Logic.{inl, inr}
-use borrow.Author.Rules.{rules}
 use Rattle.declaration.proofs.read_digit.Goals as goal
 
 pub returns-then-text-at : goal.returns-then-text-at

@@ -1,7 +1,6 @@
 use Rattle.grammar.specs.Header.{initial}
 use Rattle.text.specs.Reader.{◌>>=◌, check}
 use borrow.Author.Tests.{not-true, not-false}
-use borrow.Author.Rules.{rules}
 use Rattle.declaration.proofs.read_initial.Goals as goal
 
 pub returns-then-not-reg : goal.returns-then-not-reg

@@ -1,6 +1,4 @@
 use mathlib.Core.Path.{sym, ◌∙◌}
-use native.Mathlib.Omega.{arith}
-use borrow.Author.Rules.{rules}
 use borrow.Author.Tests.{not-true, not-false}
 use Rattle.evaluation.proofs.Answering.{not_formed, not_values, not_order, answers}
 use Rattle.evaluation.proofs.evaluate.Goals as goal

@@ -1,12 +1,8 @@
 use Prim.Native.Nat.{ℕ, ◌≤◌, ◌<◌, ◌-◌}
-use mathlib.Core.Path.{◌≡◌, sym, ◌∙◌}
+use mathlib.Core.Path.{◌≡◌}
 use mathlib.Core.Bool.{false}
 use lib.ListN.{length}
-use native.Mathlib.Omega.{arith}
-use borrow.Author.Rules.{rules}
-use borrow.Author.Count.{below_none, below_more}
-use Rattle.evaluation.specs.Called.{faulty, first_fault}
-use Rattle.base.proofs.Search.{first_found, first_none}
+use Rattle.evaluation.specs.Called.{faulty}
 use Rattle.evaluation.proofs.first_fault.Given as goal
 
 abbrev pub invariant-loop-k : goal.invariant-loop-k

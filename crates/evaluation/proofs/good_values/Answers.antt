@@ -1,5 +1,4 @@
 use Rattle.evaluation.specs.Called.{good_values}
-use borrow.Author.Rules.{rules}
 use Rattle.evaluation.proofs.good_values.Goals as goal
 
 pub returns : goal.returns

@@ -1,5 +1,3 @@
-use native.Mathlib.Omega.{arith}
-use borrow.Author.Rules.{rules}
 use Rattle.evaluation.specs.Called.{faulty}
 use Rattle.evaluation.proofs.is_faulty.Goals as goal
 

@@ -1,4 +1,3 @@
-use borrow.Author.Rules.{rules}
 use Rattle.evaluation.specs.Called.{is_told, is_value}
 use Rattle.evaluation.proofs.is_value.Goals as goal
 

@@ -1,6 +1,5 @@
 use mathlib.Core.Path.{sym, ◌∙◌}
 use native.Mathlib.Omega.{arith}
-use borrow.Author.Rules.{rules}
 use Rattle.evaluation.proofs.Saying.{vector_at, vector_past}
 use Rattle.evaluation.proofs.place_in.Goals as goal
 

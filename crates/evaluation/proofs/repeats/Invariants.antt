@@ -1,12 +1,8 @@
 use Prim.Native.Nat.{ℕ, ◌<◌, ◌≤◌, ◌-◌}
-use mathlib.Core.Path.{◌≡◌, sym}
+use mathlib.Core.Path.{◌≡◌}
 use mathlib.Core.Bool.{false}
 use lib.Dec.{eqb}
 use lib.ListN.{get_or}
-use native.Mathlib.Omega.{arith}
-use borrow.Author.Count.{below_none, below_more}
-use borrow.Author.Tests.{eq-eqb, ne_eqb}
-use Rattle.base.proofs.Search.{some_at, some_none}
 use Rattle.evaluation.proofs.repeats.Given as goal
 
 abbrev pub invariant-loop-m : goal.invariant-loop-m

@@ -1,4 +1,3 @@
-use borrow.Author.Rules.{rules}
 use Rattle.table.specs.Area.{or_x}
 use Rattle.evaluation.specs.Called.{value_in}
 use Rattle.evaluation.proofs.value_said.Goals as goal

@@ -1,17 +1,11 @@
-use Prim.Native.Nat.{ℕ, ◌-◌}
-use lib.ListN.{get_or}
-use native.Mathlib.Omega.{arith}
-use borrow.Author.Rules.{rules}
 use Rattle.base.specs.Limits.{input_limit}
-use Rattle.base.proofs.Listed.{Filled, filled_none, filled_more, filled_all}
-use Rattle.value.specs.declared.Ternary.TheVariants.{V0}
-use Rattle.evaluation.specs.Called.{vector_in, padded}
+use Rattle.base.proofs.Listed.{filled_none, filled_more, filled_all}
+use Rattle.evaluation.specs.Called.{padded}
 use Rattle.evaluation.proofs.vector_in.Goals as goal
 
 pub loop-k-init : goal.loop-k-init
 unfolding padded
 loop-k-init c = filled_none _ input_limit _
-
 
 pub returns : goal.returns
 unfolding padded

@@ -1,11 +1,9 @@
 use Prim.Native.Nat.{ℕ, ◌-◌}
 use lib.ListN.{get_or}
-use native.Mathlib.Omega.{arith}
-use borrow.Author.Rules.{rules}
 use Rattle.base.specs.Limits.{input_limit}
-use Rattle.base.proofs.Listed.{Filled, filled_none, filled_more, filled_all}
+use Rattle.base.proofs.Listed.{Filled}
 use Rattle.value.specs.declared.Ternary.TheVariants.{V0}
-use Rattle.evaluation.specs.Called.{vector_in, padded}
+use Rattle.evaluation.specs.Called.{vector_in}
 use Rattle.evaluation.proofs.vector_in.Given as goal
 
 abbrev pub invariant-loop-k : goal.invariant-loop-k

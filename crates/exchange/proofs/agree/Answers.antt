@@ -1,5 +1,3 @@
-use native.Mathlib.Omega.{arith}
-use borrow.Author.Rules.{rules}
 use Rattle.exchange.specs.Paths.{agree_of}
 use Rattle.exchange.proofs.agree.Goals as goal
 

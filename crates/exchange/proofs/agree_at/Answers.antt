@@ -1,5 +1,3 @@
-use native.Mathlib.Omega.{arith}
-use borrow.Author.Rules.{rules}
 use borrow.Author.Tests.{eq-eqb, ne_eqb}
 use Rattle.exchange.specs.Paths.{agree_at}
 use Rattle.exchange.proofs.agree_at.Goals as goal

@@ -1,4 +1,3 @@
-use borrow.Author.Rules.{rules}
 use borrow.Author.Tests.{eq-eqb, ne_eqb}
 use Rattle.exchange.specs.Paths.{agree_in}
 use Rattle.exchange.proofs.agree_in.Goals as goal

@@ -1,11 +1,7 @@
-use Prim.Native.Nat.{◌-◌, ◌≤◌}
 use mathlib.Core.Path.{◌≡◌, sym, ◌∙◌}
-use mathlib.Core.Bool.{true}
 use native.Mathlib.Omega.{arith}
 use borrow.Author.Tests.{not-true, not-false}
-use Rattle.base.specs.Search.{every}
 use Rattle.base.proofs.Search.{every_none, every_more, every_fails}
-use Rattle.exchange.specs.Paths.{agree_in}
 use Rattle.exchange.proofs.all_agree.Goals as goal
 
 pub loop-k-init : goal.loop-k-init

@@ -1,4 +1,3 @@
-use borrow.Author.Rules.{rules}
 use Rattle.exchange.specs.Paths.{differ_of}
 use Rattle.exchange.proofs.differ.Goals as goal
 

@@ -1,4 +1,3 @@
-use borrow.Author.Rules.{rules}
 use Rattle.exchange.proofs.Orders.{lanes_tell}
 use Rattle.exchange.proofs.lanes_agree.Goals as goal
 

@@ -1,4 +1,3 @@
-use borrow.Author.Rules.{rules}
 use Rattle.planes.proofs.Planes.{level_told}
 use Rattle.exchange.proofs.level_at.Goals as goal
 

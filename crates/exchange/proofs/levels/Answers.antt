@@ -1,9 +1,6 @@
-use Prim.Native.Nat.{◌-◌, ◌≤◌}
 use mathlib.Core.List.{[]}
 use native.Mathlib.Omega.{arith}
-use borrow.Author.Rules.{rules}
-use Rattle.exchange.specs.Lanes.{Level}
-use Rattle.exchange.proofs.Each.{Each, each_none, each_more, each_all}
+use Rattle.exchange.proofs.Each.{each_none, each_more, each_all}
 use Rattle.exchange.proofs.Stepped.{levels_by}
 use Rattle.exchange.proofs.levels.Goals as goal
 

@@ -1,10 +1,7 @@
 use Prim.Native.Nat.{◌-◌, ◌≤◌}
 use mathlib.Core.List.{[]}
-use native.Mathlib.Omega.{arith}
-use borrow.Author.Rules.{rules}
 use Rattle.exchange.specs.Lanes.{Level}
-use Rattle.exchange.proofs.Each.{Each, each_none, each_more, each_all}
-use Rattle.exchange.proofs.Stepped.{levels_by}
+use Rattle.exchange.proofs.Each.{Each}
 use Rattle.exchange.proofs.levels.Given as goal
 
 abbrev pub invariant-loop-k : goal.invariant-loop-k

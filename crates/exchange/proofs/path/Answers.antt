@@ -1,5 +1,4 @@
 use mathlib.Core.Path.{refl}
-use native.Mathlib.Omega.{arith}
 use Rattle.exchange.specs.Paths.{path_of}
 use Rattle.exchange.proofs.path.Goals as goal
 

@@ -1,6 +1,4 @@
-use mathlib.Core.Path.{refl}
 use native.Mathlib.Omega.{arith}
-use borrow.Author.Rules.{rules}
 use Rattle.exchange.specs.Lanes.{place_of}
 use Rattle.exchange.proofs.place.Goals as goal
 

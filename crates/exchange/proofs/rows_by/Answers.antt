@@ -1,5 +1,4 @@
 use mathlib.Core.Path.{refl}
-use native.Mathlib.Omega.{arith}
 use Rattle.memo.specs.Rows.{cell_at}
 use Rattle.exchange.specs.Lanes.{rows_by}
 use Rattle.exchange.proofs.rows_by.Goals as goal

@@ -1,6 +1,3 @@
-use native.Mathlib.Omega.{arith}
-use borrow.Author.Rules.{rules}
-use borrow.Author.Tests.{eq-eqb}
 use Rattle.exchange.proofs.Stepped.{step_by, no_step}
 use Rattle.exchange.proofs.step_at.Goals as goal
 

@@ -1,11 +1,7 @@
 use Prim.Native.Nat.{◌*◌, ◌-◌, ◌≤◌}
 use mathlib.Core.List.{[]}
-use mathlib.Core.Path.{refl, sym}
-use native.Mathlib.Nat.{add-zero}
-use native.Mathlib.Omega.{arith}
-use borrow.Author.Rules.{rules}
-use Rattle.exchange.proofs.Each.{Each, each_none, each_three, each_all}
-use Rattle.exchange.proofs.Stepped.{StepIn, in_place, steps_by}
+use Rattle.exchange.proofs.Each.{Each}
+use Rattle.exchange.proofs.Stepped.{StepIn}
 use Rattle.exchange.proofs.steps.Given as goal
 
 abbrev pub invariant-loop-k : goal.invariant-loop-k

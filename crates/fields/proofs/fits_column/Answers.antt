@@ -1,6 +1,5 @@
 use mathlib.Core.Path.{sym}
 use Rattle.fields.proofs.Piecelaws.{some_cond}
-use borrow.Author.Rules.{rules}
 use Rattle.fields.proofs.fits_column.Goals as goal
 
 pub returns-in-Entry : goal.returns-in-Entry

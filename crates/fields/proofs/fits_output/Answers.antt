@@ -1,6 +1,5 @@
 use mathlib.Core.Path.{sym}
 use Rattle.fields.proofs.Piecelaws.{dash_out}
-use borrow.Author.Rules.{rules}
 use Rattle.fields.proofs.fits_output.Goals as goal
 
 pub returns-in-Dash : goal.returns-in-Dash

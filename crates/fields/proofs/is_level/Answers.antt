@@ -1,6 +1,5 @@
 use mathlib.Core.Path.{sym}
 use Rattle.fields.proofs.Piecelaws.{level_held}
-use borrow.Author.Rules.{rules}
 use Rattle.fields.proofs.is_level.Goals as goal
 
 pub returns-in-Entry : goal.returns-in-Entry

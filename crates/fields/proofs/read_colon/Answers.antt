@@ -1,7 +1,6 @@
 use mathlib.Core.Path.{sym, ◌∙◌}
 use native.Mathlib.Omega.{arith}
 use lib.ListN.{drop}
-use borrow.Author.Rules.{rules}
 use Rattle.text.specs.Bytes.{is_symbol}
 use Rattle.text.specs.Reader.{◌>>=◌, check, mark}
 use Rattle.text.proofs.Blanklaws.{one_room, skip_still}

@@ -1,5 +1,4 @@
 use mathlib.Core.Path.{sym, ◌∙◌}
-use borrow.Author.Rules.{rules}
 use Rattle.text.specs.Reader.{◌>>=◌, need, check}
 use Rattle.text.proofs.Blanklaws.{skip_still}
 use Rattle.text.proofs.Readlaws.{ahead_one}

@@ -2,7 +2,6 @@ use Rattle.fields.proofs.Piecelaws.{level_yes, level_no}
 use mathlib.Core.Path.{sym, ◌∙◌}
 use Rattle.text.specs.Reader.{◌>>=◌, need}
 use Rattle.grammar.specs.Rows.{saying}
-use borrow.Author.Rules.{rules}
 use Rattle.fields.proofs.read_inner.Goals as goal
 
 pub returns-in_default : goal.returns-in_default

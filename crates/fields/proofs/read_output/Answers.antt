@@ -2,7 +2,6 @@ use Rattle.fields.proofs.Piecelaws.{output_yes, output_no}
 use mathlib.Core.Path.{sym, ◌∙◌}
 use Rattle.text.specs.Reader.{◌>>=◌, need}
 use Rattle.grammar.specs.Rows.{saying, field}
-use borrow.Author.Rules.{rules}
 use Rattle.fields.proofs.read_output.Goals as goal
 
 pub returns-in_default : goal.returns-in_default

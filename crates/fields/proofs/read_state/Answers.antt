@@ -3,7 +3,6 @@ use mathlib.Core.Path.{sym, ◌∙◌}
 use Rattle.text.specs.Reader.{◌>>=◌, need}
 use Rattle.grammar.specs.Rows.{state, field, saying}
 use Rattle.fields.proofs.Piecelaws.{level_yes, level_no}
-use borrow.Author.Rules.{rules}
 use Rattle.fields.proofs.read_state.Goals as goal
 
 pub returns-then-not-sequential : goal.returns-then-not-sequential

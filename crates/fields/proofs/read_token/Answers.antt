@@ -4,7 +4,6 @@ use Rattle.text.proofs.Readlaws.{mark_at, ahead_one}
 use Rattle.text.specs.Reader.{◌>>=◌, if}
 use Rattle.grammar.specs.Rows.{written}
 use native.Mathlib.Omega.{arith}
-use borrow.Author.Rules.{rules}
 use Rattle.fields.proofs.read_token.Goals as goal
 
 pub overflow_add-at : goal.overflow_add-at

@@ -1,7 +1,6 @@
 use lib.Dec.{eqb}
 use Rattle.text.specs.Bytes.{is_symbol}
 use Rattle.text.proofs.Readlaws.{begins_or, one_begins}
-use borrow.Author.Rules.{rules}
 use Rattle.fields.proofs.row_at.Goals as goal
 
 pub returns-then-symbol_at : goal.returns-then-symbol_at

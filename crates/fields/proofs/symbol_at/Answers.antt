@@ -1,6 +1,5 @@
 use Rattle.text.specs.Bytes.{is_symbol}
 use Rattle.text.proofs.Readlaws.{begins_nil, begins_cons}
-use borrow.Author.Rules.{rules}
 use Rattle.fields.proofs.symbol_at.Goals as goal
 
 pub returns-then-text-at : goal.returns-then-text-at

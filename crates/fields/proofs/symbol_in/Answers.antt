@@ -1,4 +1,3 @@
-use borrow.Author.Rules.{rules}
 use Rattle.fields.proofs.symbol_in.Goals as goal
 
 pub returns-in-Dash : goal.returns-in-Dash

@@ -1,6 +1,5 @@
 use Rattle.grammar.specs.Rows.{written_of}
 use Rattle.text.proofs.Readlaws.{said_nil, said_some, said_none}
-use borrow.Author.Rules.{rules}
 use Rattle.fields.proofs.token_at.Goals as goal
 
 pub returns-then-text-at : goal.returns-then-text-at

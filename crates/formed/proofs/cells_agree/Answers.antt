@@ -1,13 +1,9 @@
-use Prim.Native.Nat.{ℕ, ◌≤◌, ◌-◌}
 use mathlib.Core.Path.{◌≡◌, sym, ap, ◌∙◌}
-use mathlib.Core.Bool.{true, not}
+use mathlib.Core.Bool.{not}
 use native.Mathlib.Omega.{arith}
 use borrow.Author.Rules.{rules}
-use Rattle.base.specs.Search.{every}
 use Rattle.base.proofs.Search.{every_none, every_more, every_fails}
-use Rattle.table.specs.Area.{decode}
-use Rattle.table.specs.Table.{row_at}
-use Rattle.formed.specs.Tests.{contradict, row_agrees}
+use Rattle.formed.specs.Tests.{row_agrees}
 use Rattle.formed.proofs.cells_agree.Goals as goal
 
 pub loop-i-init : goal.loop-i-init

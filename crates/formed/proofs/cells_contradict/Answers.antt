@@ -1,5 +1,4 @@
-use mathlib.Core.Path.{◌≡◌, sym, ◌∙◌}
-use borrow.Author.Rules.{rules}
+use mathlib.Core.Path.{sym, ◌∙◌}
 use Rattle.table.specs.Area.{decode}
 use Rattle.table.specs.Table.{row_at}
 use Rattle.formed.proofs.Sets.{same_outputs, states_apart, states_meet, cells_same, cells_differ}

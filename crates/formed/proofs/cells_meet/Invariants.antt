@@ -1,17 +1,10 @@
-use Prim.Native.Nat.{ℕ, ◌≤◌, ◌<◌, ◌-◌}
-use mathlib.Core.Path.{◌≡◌, sym, ap, ◌∙◌}
-use mathlib.Core.Bool.{true, false}
-use native.Mathlib.Omega.{arith}
-use borrow.Author.Rules.{rules}
-use lib.ListN.{get_or}
-use mathlib.Core.List.{[]}
+use Prim.Native.Nat.{ℕ, ◌≤◌, ◌-◌}
+use mathlib.Core.Path.{◌≡◌}
+use mathlib.Core.Bool.{true}
 use Rattle.base.specs.Search.{every}
-use Rattle.base.proofs.Search.{every_none, every_more, every_fails}
 use Rattle.symbol.specs.Match.{meet}
 use Rattle.table.specs.Area.{decode}
 use Rattle.table.specs.Table.{row_at, symbol_at}
-use Rattle.formed.specs.Tests.{columns_meet}
-use Rattle.formed.proofs.Sets.{sets_apart, sets_share}
 use Rattle.formed.proofs.cells_meet.Given as goal
 
 abbrev pub invariant-loop-k : goal.invariant-loop-k

@@ -1,13 +1,8 @@
-use Prim.Native.Nat.{ℕ, ◌≤◌, ◌<◌, ◌-◌}
-use mathlib.Core.Path.{◌≡◌, sym, ap, ◌∙◌}
-use mathlib.Core.Bool.{true, false}
+use mathlib.Core.Path.{◌≡◌, sym}
 use native.Mathlib.Omega.{arith}
 use borrow.Author.Rules.{rules}
-use Rattle.base.specs.Search.{every}
 use Rattle.base.proofs.Search.{every_none, every_more, every_fails}
-use Rattle.symbol.specs.Match.{meet}
 use Rattle.table.specs.Area.{decode}
-use Rattle.table.specs.Table.{row_at, symbol_at}
 use Rattle.formed.specs.Tests.{columns_meet}
 use Rattle.formed.proofs.Sets.{sets_apart, sets_share}
 use Rattle.formed.proofs.columns_meet.Goals as goal

@@ -1,9 +1,4 @@
-use mathlib.Core.Path.{◌≡◌, sym, ◌∙◌}
-use mathlib.Core.Bool.{true, false}
-use borrow.Author.Rules.{rules}
-use Rattle.table.specs.Area.{decode}
-use Rattle.table.specs.Table.{row_at}
-use Rattle.formed.specs.Tests.{same_output}
+use mathlib.Core.Path.{sym, ◌∙◌}
 use Rattle.formed.proofs.Sets.{same_outputs, states_apart, states_meet}
 use Rattle.formed.proofs.contradicts.Goals as goal
 

@@ -1,18 +1,9 @@
 use Prim.Native.Nat.{ℕ, ◌≤◌, ◌<◌, ◌-◌}
-use mathlib.Core.Path.{◌≡◌, sym, ap, ◌∙◌}
-use mathlib.Core.Bool.{true, false}
-use native.Mathlib.Omega.{arith}
-use borrow.Author.Rules.{rules}
-use lib.ListN.{get_or}
-use Prim.Native.Nat.{◌%◌}
-use borrow.Author.Count.{below_none, below_more}
-use borrow.Author.Tests.{eq-eqb, ne_eqb}
-use Rattle.base.proofs.Search.{first_found, first_none}
+use mathlib.Core.Path.{◌≡◌}
+use mathlib.Core.Bool.{false}
 use Rattle.symbol.specs.Match.{is_edge}
 use Rattle.table.specs.Area.{decode}
 use Rattle.table.specs.Table.{row_at, symbol_at}
-use Rattle.table.specs.Match.{edge_at}
-use Rattle.formed.proofs.Sets.{set_edge}
 use Rattle.formed.proofs.edge_at.Given as goal
 
 abbrev pub invariant-loop-k : goal.invariant-loop-k

@@ -1,5 +1,4 @@
 use Rattle.formed.specs.Tests.{head_valid}
-use borrow.Author.Rules.{rules}
 use Rattle.formed.proofs.head_valid.Goals as goal
 
 pub returns : goal.returns

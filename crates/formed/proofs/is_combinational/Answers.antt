@@ -1,4 +1,3 @@
-use borrow.Author.Rules.{rules}
 use Rattle.offers.proofs.Offers.{any_offers}
 use Rattle.table.specs.Area.{decode}
 use Rattle.table.specs.Table.{row_at}

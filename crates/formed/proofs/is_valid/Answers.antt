@@ -1,5 +1,4 @@
 use mathlib.Core.Path.{sym, ◌∙◌}
-use borrow.Author.Rules.{rules}
 use borrow.Author.Tests.{not-true, not-false}
 use Rattle.formed.specs.Tests.{valid}
 use Rattle.formed.proofs.Exact.{head_inputs, head_rows}

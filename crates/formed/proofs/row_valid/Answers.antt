@@ -1,4 +1,3 @@
-use borrow.Author.Rules.{rules}
 use borrow.Author.Tests.{eq-eqb}
 use Rattle.table.proofs.Encoding.{decode_columns}
 use Rattle.formed.specs.Tests.{row_valid}

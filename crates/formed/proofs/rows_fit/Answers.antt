@@ -1,18 +1,15 @@
-use Prim.Native.Nat.{ℕ, ◌≤◌, ◌-◌}
+use Prim.Native.Nat.{ℕ}
 use mathlib.Core.Path.{◌≡◌, sym, ◌∙◌}
 use mathlib.Core.Bool.{true, false, and-false}
 use mathlib.Core.List.{List}
 use native.Mathlib.Omega.{arith}
 use lib.ListN.{length, replicate, length-set, length-replicate}
-use borrow.Author.Rules.{rules}
 use borrow.Author.Tests.{not-true, not-false}
 use Rattle.base.specs.Limits.{row_limit}
-use Rattle.base.specs.Search.{every}
 use Rattle.base.proofs.Search.{every_none, every_more, every_fails}
 use Rattle.table.specs.Area.{decode}
-use Rattle.table.specs.Table.{row_at}
-use Rattle.formed.specs.Tests.{row_valid, rows_valid, row_agrees, rows_agree}
-use Rattle.formed.specs.Cells.{cell_count, RowCells}
+use Rattle.formed.specs.Tests.{rows_valid, rows_agree}
+use Rattle.formed.specs.Cells.{cell_count}
 use Rattle.formed.proofs.Sets.{rows_none, rows_more}
 use Rattle.formed.proofs.rows_fit.Goals as goal
 
@@ -59,11 +56,11 @@ loop-j-preserved c =
     let j = c.loop-j.j in
     let s = c.loop-j.s in
     let l = c.cells_in-c.result in (
-    omega arith,
-    length-set s j l ∙ inv.1,
-    rows_more _ j s l (omega (arith, c.rows-m.ensures, c.requires.1)) inv.1 c.cells_in-c.ensures inv.2,
-    every_more _ _ inv.3 (sym c.row_valid.ensures ∙ not-false _ c.if-not-row_valid.false-raw),
-    every_more _ _ inv.4 (sym c.cells_agree.ensures ∙ not-false _ c.if-not-cells_agree.false-raw),
+      omega arith,
+      length-set s j l ∙ inv.1,
+      rows_more _ j s l (omega (arith, c.rows-m.ensures, c.requires.1)) inv.1 c.cells_in-c.ensures inv.2,
+      every_more _ _ inv.3 (sym c.row_valid.ensures ∙ not-false _ c.if-not-row_valid.false-raw),
+      every_more _ _ inv.4 (sym c.cells_agree.ensures ∙ not-false _ c.if-not-cells_agree.false-raw),
     )
 
 pub returns : goal.returns

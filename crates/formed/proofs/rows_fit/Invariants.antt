@@ -1,19 +1,13 @@
 use Prim.Native.Nat.{ℕ, ◌≤◌, ◌-◌}
-use mathlib.Core.Path.{◌≡◌, sym, ◌∙◌}
-use mathlib.Core.Bool.{true, false, and-false}
-use mathlib.Core.List.{List}
-use native.Mathlib.Omega.{arith}
-use lib.ListN.{length, replicate, length-set, length-replicate}
-use borrow.Author.Rules.{rules}
-use borrow.Author.Tests.{not-true, not-false}
+use mathlib.Core.Path.{◌≡◌}
+use mathlib.Core.Bool.{true}
+use lib.ListN.{length}
 use Rattle.base.specs.Limits.{row_limit}
 use Rattle.base.specs.Search.{every}
-use Rattle.base.proofs.Search.{every_none, every_more, every_fails}
 use Rattle.table.specs.Area.{decode}
 use Rattle.table.specs.Table.{row_at}
-use Rattle.formed.specs.Tests.{row_valid, rows_valid, row_agrees, rows_agree}
-use Rattle.formed.specs.Cells.{cell_count, RowCells}
-use Rattle.formed.proofs.Sets.{rows_none, rows_more}
+use Rattle.formed.specs.Tests.{row_valid, row_agrees}
+use Rattle.formed.specs.Cells.{RowCells}
 use Rattle.formed.proofs.rows_fit.Given as goal
 
 abbrev pub invariant-loop-j : goal.invariant-loop-j

@@ -1,5 +1,4 @@
 use Rattle.formed.specs.Tests.{same_output}
-use borrow.Author.Rules.{rules}
 use Rattle.formed.proofs.same_output.Goals as goal
 
 pub returns : goal.returns

@@ -1,6 +1,5 @@
 use Rattle.formed.specs.Tests.{well_formed}
 use borrow.Author.Tests.{eq-eqb, ne_eqb, not-false, not-true}
-use borrow.Author.Rules.{rules}
 use Rattle.formed.proofs.well_formed.Goals as goal
 
 pub returns-then-a-ne-AREA : goal.returns-then-a-ne-AREA

@@ -1,10 +1,9 @@
-use Rattle.ports.specs.Ports.{all_up}
 use Rattle.ports.proofs.Flags.{up_cons}
 use mathlib.Core.Bool.{false}
 use native.Mathlib.Nat.{sub-zero}
 use borrow.Author.Tests.{not-true, not-false}
-use lib.ListN.{drop, get_or}
-use Prim.Native.Nat.{◌+◌, ◌-◌, ◌≤◌, suc}
+use lib.ListN.{get_or}
+use Prim.Native.Nat.{◌+◌, ◌-◌, suc}
 use native.Mathlib.Omega.{arith}
 use mathlib.Core.Path.{◌≡◌}
 use Rattle.header.proofs.all_declared.Goals as goal

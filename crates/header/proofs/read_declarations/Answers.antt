@@ -1,13 +1,10 @@
 use Rattle.ports.specs.Ports.{port_at, ports_of, down}
-use Rattle.header.specs.Heads.{head_with}
-use Rattle.grammar.specs.Header.{declarations, declaration_room}
-use Rattle.text.specs.Reader.{bind, check}
+use Rattle.text.specs.Reader.{check}
 use Rattle.header.proofs.Steps.{turn_fault, turn_output, turn_reg, turn_input, turn_initial, turn_table, turn_none, word_table}
 use Rattle.base.specs.Limits.{input_limit}
 use Rattle.ports.proofs.Keeping.{output_test, output_raise, all_up_lem}
 use Rattle.ports.proofs.Flags.{down_fresh}
-use mathlib.Core.Bool.{false}
-use lib.ListN.{length, drop, length-set}
+use lib.ListN.{drop, length-set}
 use Prim.Native.Nat.{◌+◌, ◌-◌, suc}
 use native.Mathlib.Omega.{arith}
 use mathlib.Core.Path.{◌≡◌, refl, sym, ◌∙◌}

@@ -4,7 +4,6 @@ use Rattle.grammar.specs.Header.{port_list, declared}
 use Rattle.text.specs.Reader.{◌>>=◌}
 use Rattle.header.proofs.Steps.{sized}
 use mathlib.Core.Path.{◌∙◌}
-use borrow.Author.Rules.{rules}
 use Rattle.header.proofs.read_head.Goals as goal
 
 pub returns-in_default : goal.returns-in_default

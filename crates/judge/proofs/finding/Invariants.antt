@@ -1,13 +1,10 @@
 use Prim.Native.Nat.{ℕ, ◌*◌, ◌/◌, ◌%◌, ◌<◌, ◌≤◌, ◌-◌}
 use mathlib.Core.Path.{◌≡◌}
 use mathlib.Core.Bool.{false}
-use native.Mathlib.Omega.{arith}
-use borrow.Author.Count.{below_none, below_more}
 use Rattle.base.specs.Limits.{input_limit}
 use Rattle.table.specs.Table.{Table}
 use Rattle.pair.specs.Search.{Given}
 use Rattle.judge.specs.Search.{pair_differs}
-use Rattle.judge.proofs.Findings.{vectors_low, counted, differs_not, found_at, none_found}
 use Rattle.judge.proofs.finding.Given as goal
 
 abbrev pub invariant-loop-p : goal.invariant-loop-p

@@ -15,9 +15,9 @@ agrees-requires c = (omega arith, omega arith, omega arith, omega arith, c.requi
 
 pub returns-then-agrees : goal.returns-then-agrees
 returns-then-agrees c = (
-    λ t G. c.requires.2 ∙ rw G.inputs_are (sym (agreed t _ _ (omega arith) (omega (arith, G.inputs_are)) ((c.agrees.ensures t G).sound c.if-agrees.true))),
-    λ h. absurd (omega arith),
-    )
+  λ t G. c.requires.2 ∙ rw G.inputs_are (sym (agreed t _ _ (omega arith) (omega (arith, G.inputs_are)) ((c.agrees.ensures t G).sound c.if-agrees.true))),
+  λ h. absurd (omega arith),
+)
 
 pub first_difference-requires : goal.first_difference-requires
 first_difference-requires c = (omega arith, omega arith, omega arith, omega arith)

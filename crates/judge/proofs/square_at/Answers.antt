@@ -1,13 +1,8 @@
-use Prim.Native.Nat.{ℕ, ◌-◌}
 use mathlib.Core.List.{[]}
 use native.Mathlib.Omega.{arith}
-use borrow.Author.Rules.{rules}
 use Rattle.base.specs.Limits.{input_limit}
-use Rattle.base.specs.Listed.{listed}
-use Rattle.base.proofs.Listed.{Filled, filled_none, filled_more, filled_all}
-use Rattle.table.specs.Table.{Table}
-use Rattle.pair.specs.Search.{Given}
-use Rattle.judge.specs.Search.{yes_in, square_in}
+use Rattle.base.proofs.Listed.{filled_none, filled_more, filled_all}
+use Rattle.judge.specs.Search.{square_in}
 use Rattle.judge.proofs.Pairwise.{filled_at}
 use Rattle.judge.proofs.square_at.Goals as goal
 

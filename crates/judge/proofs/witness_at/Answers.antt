@@ -1,5 +1,4 @@
 use native.Mathlib.Omega.{arith}
-use borrow.Author.Rules.{rules}
 use Rattle.judge.specs.Search.{witness_in}
 use Rattle.judge.proofs.witness_at.Goals as goal
 

@@ -1,6 +1,5 @@
 use mathlib.Core.Path.{refl}
 use native.Mathlib.Omega.{arith}
-use borrow.Author.Rules.{rules}
 use Rattle.judge.proofs.Findings.{no_pair, past_pair}
 use Rattle.judge.proofs.Pairwise.{yes_before, yes_nowhere, yes_told}
 use Rattle.judge.proofs.yes_at.Goals as goal

@@ -2,7 +2,6 @@ use Rattle.table.specs.Area.{decode}
 use mathlib.Core.Path.{refl}
 use native.Mathlib.Omega.{arith}
 use Rattle.keeping.proofs.Standing.{of_parts}
-use borrow.Author.Rules.{rules}
 use Rattle.keeping.proofs.add.Goals as goal
 
 pub returns-in-Stated : goal.returns-in-Stated

@@ -1,10 +1,7 @@
-use Prim.Native.Nat.{◌≤◌, ◌-◌}
-use mathlib.Core.Path.{◌≡◌}
 use native.Mathlib.Omega.{arith}
 use borrow.Author.Rules.{rules}
-use lib.ListN.{length}
 use Rattle.listing.proofs.Nexts.{end_read, refused_read}
-use Rattle.keeping.specs.Keeping.{Primitives, none_yet}
+use Rattle.keeping.specs.Keeping.{none_yet}
 use Rattle.keeping.proofs.Turns.{read_more}
 use Rattle.keeping.proofs.count.Goals as goal
 
@@ -23,10 +20,10 @@ returns-in-End c = (_, c.loop-next.invariant.0, (end_read _ _ _ _ (rw c.in-End.i
 
 pub returns-in-Refused : goal.returns-in-Refused
 returns-in-Refused c = (
-    _,
-    _,
-    _,
-    c.loop-next.invariant.0,
-    (refused_read _ _ _ _ _ _ (rw c.in-Refused.is at c.read-r.ensures)).0,
-    c.loop-next.invariant.3,
-    )
+  _,
+  _,
+  _,
+  c.loop-next.invariant.0,
+  (refused_read _ _ _ _ _ _ (rw c.in-Refused.is at c.read-r.ensures)).0,
+  c.loop-next.invariant.3,
+)

@@ -1,11 +1,7 @@
 use Prim.Native.Nat.{◌≤◌, ◌-◌}
 use mathlib.Core.Path.{◌≡◌}
-use native.Mathlib.Omega.{arith}
-use borrow.Author.Rules.{rules}
 use lib.ListN.{length}
-use Rattle.listing.proofs.Nexts.{end_read, refused_read}
-use Rattle.keeping.specs.Keeping.{Primitives, none_yet}
-use Rattle.keeping.proofs.Turns.{read_more}
+use Rattle.keeping.specs.Keeping.{Primitives}
 use Rattle.keeping.proofs.count.Given as goal
 
 abbrev pub invariant-loop-next : goal.invariant-loop-next

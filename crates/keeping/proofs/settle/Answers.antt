@@ -1,9 +1,7 @@
 use mathlib.Core.Path.{refl}
 use mathlib.Core.Logic.{inl}
 use Rattle.keeping.proofs.Turns.{settled}
-use borrow.Author.Rules.{rules}
 use Rattle.keeping.proofs.settle.Goals as goal
-
 
 pub returns-in-End : goal.returns-in-End
 returns-in-End c = ((rw c.in-End.is at c.next_verdict-v.ensures).0, refl)

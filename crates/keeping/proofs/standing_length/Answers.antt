@@ -3,7 +3,6 @@ use mathlib.Core.Bool.{true, false}
 use Rattle.table.specs.Area.{decode}
 use Rattle.keeping.specs.Keeping.{handed}
 use Rattle.keeping.proofs.Standing.{of_parts, standing_is}
-use borrow.Author.Rules.{rules}
 use Rattle.keeping.proofs.standing_length.Goals as goal
 
 pub returns-then-stands : goal.returns-then-stands

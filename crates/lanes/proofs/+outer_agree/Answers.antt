@@ -1,6 +1,4 @@
-use Prim.Native.Nat.{ℕ, ◌<◌}
 use native.Mathlib.Omega.{arith}
-use borrow.Author.Rules.{rules}
 use borrow.Author.Tests.{not-true, not-false}
 use Rattle.memo.specs.Rows.{cell_at}
 use Rattle.lanes.proofs.Outer.{outer_plain, outer_none, outer_no, outer_three, outer_last, outer_same}

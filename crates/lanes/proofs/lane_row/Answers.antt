@@ -1,4 +1,3 @@
-use borrow.Author.Rules.{rules}
 use Rattle.lanes.proofs.Rows.{lane_row_by}
 use Rattle.lanes.proofs.lane_row.Goals as goal
 

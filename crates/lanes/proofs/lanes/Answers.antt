@@ -1,8 +1,5 @@
-use Prim.Native.Nat.{ℕ, ◌-◌, ◌≤◌}
 use native.Mathlib.Omega.{arith}
-use borrow.Author.Rules.{rules}
-use Rattle.lanes.specs.Columns.{LaneRow}
-use Rattle.exchange.proofs.Each.{Each, each_none, each_more, each_all}
+use Rattle.exchange.proofs.Each.{each_none, each_more, each_all}
 use Rattle.lanes.proofs.lanes.Goals as goal
 
 pub loop-r-init : goal.loop-r-init

@@ -1,8 +1,6 @@
 use Prim.Native.Nat.{ℕ, ◌-◌, ◌≤◌}
-use native.Mathlib.Omega.{arith}
-use borrow.Author.Rules.{rules}
 use Rattle.lanes.specs.Columns.{LaneRow}
-use Rattle.exchange.proofs.Each.{Each, each_none, each_more, each_all}
+use Rattle.exchange.proofs.Each.{Each}
 use Rattle.lanes.proofs.lanes.Given as goal
 
 abbrev pub invariant-loop-r : goal.invariant-loop-r

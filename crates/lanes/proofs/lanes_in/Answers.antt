@@ -1,4 +1,3 @@
-use borrow.Author.Rules.{rules}
 use borrow.Author.Tests.{eq-eqb, ne_eqb}
 use Rattle.memo.specs.Rows.{cell_at}
 use Rattle.lanes.specs.Columns.{lanes_in}

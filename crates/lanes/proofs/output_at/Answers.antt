@@ -1,5 +1,4 @@
 use native.Mathlib.Omega.{arith}
-use borrow.Author.Rules.{rules}
 use Rattle.orders.proofs.Candidates.{rank_low}
 use Rattle.lanes.proofs.output_at.Goals as goal
 

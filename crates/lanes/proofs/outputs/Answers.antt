@@ -1,14 +1,6 @@
-use Prim.Native.Nat.{ℕ, ◌/◌, ◌%◌, ◌-◌, ◌≤◌}
-use mathlib.Core.Path.{◌≡◌, ◌∙◌}
 use native.Mathlib.Omega.{arith}
-use borrow.Author.Rules.{rules}
-use Rattle.value.specs.Value.{rank_of, value_of}
-use Rattle.symbol.specs.Match.{result_of}
-use Rattle.table.specs.Table.{row_at}
-use Rattle.table.specs.Area.{decode}
 use Rattle.orders.proofs.Candidates.{rank_low}
-use Rattle.planes.specs.Planes.{Low}
-use Rattle.exchange.proofs.Each.{Each, each_none, each_more, each_all}
+use Rattle.exchange.proofs.Each.{each_none, each_more, each_all}
 use Rattle.lanes.proofs.Answering.{low_none, low_more, outputs_by}
 use Rattle.lanes.proofs.outputs.Goals as goal
 
@@ -20,10 +12,10 @@ bounds-f-c c = omega (arith, c.loop-c.invariant.2.long)
 
 pub loop-c-preserved : goal.loop-c-preserved
 loop-c-preserved c = let i = c.loop-c.invariant in (
-    omega arith,
-    low_more _ _ _ (omega (arith, i.2.long)) (rw c.output_at.ensures (rank_low _)) i.1,
-    each_more 0 _ 192 _ _ _ (omega arith) c.output_at.ensures i.2,
-    )
+  omega arith,
+  low_more _ _ _ (omega (arith, i.2.long)) (rw c.output_at.ensures (rank_low _)) i.1,
+  each_more 0 _ 192 _ _ _ (omega arith) c.output_at.ensures i.2,
+)
 
 pub returns : goal.returns
 returns c = let i = c.loop-c.invariant in

@@ -1,15 +1,11 @@
 use Prim.Native.Nat.{ℕ, ◌/◌, ◌%◌, ◌-◌, ◌≤◌}
-use mathlib.Core.Path.{◌≡◌, ◌∙◌}
-use native.Mathlib.Omega.{arith}
-use borrow.Author.Rules.{rules}
+use mathlib.Core.Path.{◌≡◌}
 use Rattle.value.specs.Value.{rank_of, value_of}
 use Rattle.symbol.specs.Match.{result_of}
 use Rattle.table.specs.Table.{row_at}
 use Rattle.table.specs.Area.{decode}
-use Rattle.orders.proofs.Candidates.{rank_low}
 use Rattle.planes.specs.Planes.{Low}
-use Rattle.exchange.proofs.Each.{Each, each_none, each_more, each_all}
-use Rattle.lanes.proofs.Answering.{low_none, low_more, outputs_by}
+use Rattle.exchange.proofs.Each.{Each}
 use Rattle.lanes.proofs.outputs.Given as goal
 
 abbrev pub invariant-loop-c : goal.invariant-loop-c

@@ -1,7 +1,5 @@
-use Prim.Native.Nat.{◌≤◌}
-use mathlib.Core.Path.{◌≡◌, refl}
+use mathlib.Core.Path.{refl}
 use native.Mathlib.Omega.{arith}
-use Rattle.lanes.specs.Columns.{top_of}
 use Rattle.lanes.proofs.Tops.{top_here, top_next, top_none}
 use Rattle.lanes.proofs.top_of.Goals as goal
 

@@ -1,8 +1,6 @@
 use Prim.Native.Nat.{◌≤◌}
-use mathlib.Core.Path.{◌≡◌, refl}
-use native.Mathlib.Omega.{arith}
+use mathlib.Core.Path.{◌≡◌}
 use Rattle.lanes.specs.Columns.{top_of}
-use Rattle.lanes.proofs.Tops.{top_here, top_next, top_none}
 use Rattle.lanes.proofs.top_of.Given as goal
 
 abbrev pub invariant-loop-q : goal.invariant-loop-q

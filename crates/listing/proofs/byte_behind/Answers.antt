@@ -1,7 +1,6 @@
 use lib.ListN.{get_or-eq_default}
 use native.Mathlib.Omega.{arith}
 use mathlib.Core.Path.{sym}
-use borrow.Author.Rules.{rules}
 use Rattle.listing.proofs.byte_behind.Goals as goal
 
 pub returns-then-book-at : goal.returns-then-book-at

@@ -1,5 +1,4 @@
 use Rattle.listing.proofs.Nexts.{table_read, judged_table, never_refused, end_read, refused_read}
-use borrow.Author.Rules.{rules}
 use Rattle.listing.proofs.next_verdict.Goals as goal
 
 pub returns-in-Found : goal.returns-in-Found

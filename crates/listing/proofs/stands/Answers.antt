@@ -1,17 +1,7 @@
-use Prim.Native.Nat.{ℕ, ◌+◌, ◌≤◌, ◌-◌}
 use mathlib.Core.Path.{◌≡◌, sym, ◌∙◌}
-use mathlib.Core.Bool.{true}
-use mathlib.Core.List.{[], ◌∷◌, ◌++◌}
 use native.Mathlib.Omega.{arith}
-use lib.Dec.{eqb}
-use lib.ListN.{get_or}
-use borrow.Author.Rules.{rules}
 use borrow.Author.Tests.{eq-eqb, ne_eqb}
-use Rattle.base.specs.Search.{every}
 use Rattle.base.proofs.Search.{every_none, every_more, every_fails}
-use Rattle.files.specs.Files.{LF}
-use Rattle.entry.specs.Entry.{entry}
-use Rattle.entry.specs.Draft.{draft}
 use Rattle.listing.specs.Next.{stands_in}
 use Rattle.listing.proofs.stands.Goals as goal
 

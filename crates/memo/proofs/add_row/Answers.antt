@@ -1,9 +1,7 @@
-use Prim.Native.Nat.{ℕ, ◌+◌, ◌-◌, ◌*◌, ◌/◌, ◌%◌, ◌^◌, ◌≤◌}
 use mathlib.Core.Path.{◌≡◌, refl, sym}
 use native.Mathlib.Nat.{div-one}
 use native.Mathlib.Omega.{arith}
-use lib.ListN.{get_or}
-use Rattle.base.proofs.Patched.{Patched, patched_none}
+use Rattle.base.proofs.Patched.{patched_none}
 use Rattle.memo.proofs.Offers.{next_bit, set_more}
 use Rattle.memo.proofs.add_row.Goals as goal
 

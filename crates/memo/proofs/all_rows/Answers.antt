@@ -1,11 +1,5 @@
-use Prim.Native.Nat.{ℕ, ◌≤◌, ◌-◌}
-use mathlib.Core.Path.{◌≡◌, refl}
-use mathlib.Core.Bool.{true}
-use lib.ListN.{length}
+use mathlib.Core.Path.{refl}
 use native.Mathlib.Omega.{arith}
-use borrow.Author.Rules.{rules}
-use Rattle.table.specs.Area.{decode}
-use Rattle.symbol.specs.Masks.{mask_from}
 use Rattle.memo.specs.Rows.{all_rows}
 use Rattle.memo.proofs.Masks.{mask_top, mask_down, mask_bottom, mask_room}
 use Rattle.memo.proofs.all_rows.Goals as goal

@@ -1,13 +1,9 @@
 use Prim.Native.Nat.{ℕ, ◌≤◌, ◌-◌}
-use mathlib.Core.Path.{◌≡◌, refl}
+use mathlib.Core.Path.{◌≡◌}
 use mathlib.Core.Bool.{true}
 use lib.ListN.{length}
-use native.Mathlib.Omega.{arith}
-use borrow.Author.Rules.{rules}
 use Rattle.table.specs.Area.{decode}
 use Rattle.symbol.specs.Masks.{mask_from}
-use Rattle.memo.specs.Rows.{all_rows}
-use Rattle.memo.proofs.Masks.{mask_top, mask_down, mask_bottom, mask_room}
 use Rattle.memo.proofs.all_rows.Given as goal
 
 abbrev pub invariant-loop-i : goal.invariant-loop-i

@@ -1,7 +1,4 @@
-use native.Mathlib.Omega.{arith}
-use borrow.Author.Rules.{rules}
-use Rattle.table.specs.Area.{decode}
-use Rattle.memo.proofs.Offers.{From, from_none, from_room, from_more, from_all}
+use Rattle.memo.proofs.Offers.{from_none, from_room, from_more, from_all}
 use Rattle.memo.proofs.cell_row.Goals as goal
 
 pub loop-i-init : goal.loop-i-init

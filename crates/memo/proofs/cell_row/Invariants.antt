@@ -1,7 +1,5 @@
-use native.Mathlib.Omega.{arith}
-use borrow.Author.Rules.{rules}
 use Rattle.table.specs.Area.{decode}
-use Rattle.memo.proofs.Offers.{From, from_none, from_room, from_more, from_all}
+use Rattle.memo.proofs.Offers.{From}
 use Rattle.memo.proofs.cell_row.Given as goal
 
 abbrev pub invariant-loop-i : goal.invariant-loop-i

@@ -1,11 +1,8 @@
 use Prim.Native.Nat.{suc, ◌-◌}
-use mathlib.Core.Path.{◌∙◌}
-use native.Mathlib.Omega.{arith}
-use borrow.Author.Rules.{rules}
 use Rattle.base.specs.Limits.{input_limit}
-use Rattle.base.proofs.Listed.{Filled, filled_none, filled_more, filled_all}
+use Rattle.base.proofs.Listed.{Filled}
 use Rattle.table.specs.Area.{decode}
-use Rattle.memo.specs.Rows.{cell_row, cells}
+use Rattle.memo.specs.Rows.{cell_row}
 use Rattle.memo.proofs.cells_of.Given as goal
 
 abbrev pub invariant-loop-k : goal.invariant-loop-k

@@ -1,5 +1,4 @@
 use mathlib.Core.Path.{sym, ap, ◌∙◌}
-use borrow.Author.Rules.{rules}
 use Rattle.symbol.specs.Masks.{offers}
 use Rattle.memo.proofs.Offers.{column_symbol, column_state}
 use Rattle.memo.proofs.offers_at.Goals as goal

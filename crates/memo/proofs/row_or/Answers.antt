@@ -1,6 +1,5 @@
 use mathlib.Core.Path.{sym, ◌∙◌}
 use native.Mathlib.Omega.{arith}
-use borrow.Author.Rules.{rules}
 use Rattle.memo.proofs.Offers.{behind}
 use Rattle.memo.proofs.row_or.Goals as goal
 

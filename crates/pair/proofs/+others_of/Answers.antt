@@ -1,4 +1,3 @@
-use Prim.Native.Nat.{ℕ, ◌<◌}
 use native.Mathlib.Omega.{arith}
 use Rattle.pair.proofs.Steps.{others_none, others_same, others_more}
 use Rattle.pair.proofs.+others_of.Goals as goal

@@ -1,11 +1,9 @@
-use Prim.Native.Nat.{ℕ, ◌<◌, ◌≤◌, ◌-◌}
 use mathlib.Core.Path.{◌≡◌, sym, ap, ◌∙◌}
-use mathlib.Core.Bool.{false, not}
+use mathlib.Core.Bool.{not}
 use native.Mathlib.Omega.{arith}
 use borrow.Author.Count.{below_none, below_more}
 use Rattle.base.proofs.Search.{first_found, first_none}
-use Rattle.table.specs.Table.{Table}
-use Rattle.pair.specs.Search.{Known, differs_by}
+use Rattle.pair.specs.Search.{differs_by}
 use Rattle.pair.proofs.first_case.Goals as goal
 
 pub agree_v-requires : goal.agree_v-requires

@@ -1,9 +1,6 @@
 use Prim.Native.Nat.{ℕ, ◌<◌, ◌≤◌, ◌-◌}
-use mathlib.Core.Path.{◌≡◌, sym, ap, ◌∙◌}
-use mathlib.Core.Bool.{false, not}
-use native.Mathlib.Omega.{arith}
-use borrow.Author.Count.{below_none, below_more}
-use Rattle.base.proofs.Search.{first_found, first_none}
+use mathlib.Core.Path.{◌≡◌}
+use mathlib.Core.Bool.{false}
 use Rattle.table.specs.Table.{Table}
 use Rattle.pair.specs.Search.{Known, differs_by}
 use Rattle.pair.proofs.first_case.Given as goal

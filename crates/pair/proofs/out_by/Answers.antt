@@ -1,5 +1,4 @@
 use native.Mathlib.Omega.{arith}
-use borrow.Author.Rules.{rules}
 use Rattle.pair.proofs.Steps.{by_level, by_edge, by_none}
 use Rattle.pair.proofs.out_by.Goals as goal
 

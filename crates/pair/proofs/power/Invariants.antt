@@ -1,10 +1,5 @@
 use Prim.Native.Nat.{◌^◌, ◌≤◌, ◌-◌}
-use mathlib.Core.Path.{◌≡◌, refl}
-use native.Mathlib.Nat.{pow-suc}
-use native.Mathlib.Numerals.{add-one}
-use native.Mathlib.Omega.{arith}
-use Rattle.base.specs.Limits.{input_limit}
-use Rattle.orders.proofs.Digits.{power_le}
+use mathlib.Core.Path.{◌≡◌}
 use Rattle.pair.proofs.power.Given as goal
 
 abbrev pub invariant-loop-k : goal.invariant-loop-k

@@ -1,10 +1,6 @@
-use Prim.Native.Nat.{ℕ, ◌*◌, ◌<◌, ◌≤◌, ◌-◌}
 use mathlib.Core.Path.{◌≡◌, sym}
-use mathlib.Core.Bool.{false}
 use native.Mathlib.Omega.{arith}
 use Rattle.base.proofs.Search.{first_none}
-use Rattle.table.specs.Table.{Table}
-use Rattle.pair.specs.Search.{Known, differs_in}
 use Rattle.pair.proofs.Scans.{found_case, next_vector}
 use Rattle.pair.proofs.scan.Goals as goal
 

@@ -1,8 +1,5 @@
-use Prim.Native.Nat.{◌≤◌, ◌-◌}
-use native.Mathlib.Omega.{arith}
-use borrow.Author.Rules.{rules}
 use Rattle.memo.specs.Rows.{cell_at}
-use Rattle.plain.proofs.Sets.{Passed, passed_none, passed_more, passed_all}
+use Rattle.plain.proofs.Sets.{passed_none, passed_more, passed_all}
 use Rattle.plain.proofs.edge_rows.Goals as goal
 
 pub loop-e-init : goal.loop-e-init

@@ -1,8 +1,5 @@
-use Prim.Native.Nat.{◌≤◌, ◌-◌}
-use native.Mathlib.Omega.{arith}
-use borrow.Author.Rules.{rules}
-use Rattle.memo.specs.Rows.{cell_at}
-use Rattle.plain.proofs.Sets.{Passed, passed_none, passed_more, passed_all}
+use Prim.Native.Nat.{◌-◌}
+use Rattle.plain.proofs.Sets.{Passed}
 use Rattle.plain.proofs.edge_rows.Given as goal
 
 abbrev pub invariant-loop-e : goal.invariant-loop-e

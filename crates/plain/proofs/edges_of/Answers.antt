@@ -1,4 +1,3 @@
-use borrow.Author.Rules.{rules}
 use Rattle.plain.proofs.Sets.{edges_first, edges_second}
 use Rattle.plain.proofs.edges_of.Goals as goal
 

@@ -1,4 +1,3 @@
-use borrow.Author.Rules.{rules}
 use Rattle.plain.specs.Plain.{firm_at}
 use Rattle.plain.proofs.firm_at.Goals as goal
 

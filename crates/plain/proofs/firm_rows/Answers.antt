@@ -1,7 +1,6 @@
-use Prim.Native.Nat.{◌≤◌, ◌-◌}
-use mathlib.Core.Path.{◌≡◌, refl}
+use Prim.Native.Nat.{◌-◌}
+use mathlib.Core.Path.{refl}
 use native.Mathlib.Omega.{arith}
-use Rattle.symbol.specs.Masks.{mask_from}
 use Rattle.memo.proofs.Masks.{mask_top, mask_down, mask_bottom, mask_room, bit_small}
 use Rattle.plain.specs.Plain.{firm_at}
 use Rattle.plain.proofs.firm_rows.Goals as goal

@@ -1,8 +1,6 @@
 use Prim.Native.Nat.{◌≤◌, ◌-◌}
-use mathlib.Core.Path.{◌≡◌, refl}
-use native.Mathlib.Omega.{arith}
+use mathlib.Core.Path.{◌≡◌}
 use Rattle.symbol.specs.Masks.{mask_from}
-use Rattle.memo.proofs.Masks.{mask_top, mask_down, mask_bottom, mask_room, bit_small}
 use Rattle.plain.specs.Plain.{firm_at}
 use Rattle.plain.proofs.firm_rows.Given as goal
 

@@ -1,5 +1,3 @@
-use native.Mathlib.Omega.{arith}
-use borrow.Author.Rules.{rules}
 use Rattle.memo.specs.Rows.{cell_at}
 use Rattle.plain.proofs.Sets.{steady_by}
 use Rattle.plain.proofs.steady_rows.Goals as goal

@@ -1,4 +1,3 @@
-use borrow.Author.Rules.{rules}
 use Rattle.planes.proofs.Planes.{closed_by}
 use Rattle.planes.proofs.closed.Goals as goal
 

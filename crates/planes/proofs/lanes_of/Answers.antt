@@ -1,4 +1,3 @@
-use native.Mathlib.Omega.{arith}
 use Rattle.planes.proofs.Bits.{shift_in, shift_out}
 use Rattle.planes.proofs.lanes_of.Goals as goal
 

@@ -1,13 +1,12 @@
-use Prim.Native.Nat.{ℕ, ◌-◌, ◌^◌, ◌<◌}
-use mathlib.Core.Path.{◌≡◌, refl, ◌∙◌}
-use lib.ListN.{length, length-set}
+use Prim.Native.Nat.{◌-◌}
+use mathlib.Core.Path.{refl, ◌∙◌}
+use lib.ListN.{length-set}
 use lib.Bits.{and_le_r}
 use lib.Count.{trailing_le}
 use native.Mathlib.Omega.{arith}
 use borrow.Author.Rules.{rules}
-use Rattle.planes.specs.Words.{Told}
 use Rattle.planes.proofs.Bits.{lowest_lt}
-use Rattle.planes.proofs.Answers.{low_is, Going, going_none, going_more, going_empty, going_closed}
+use Rattle.planes.proofs.Answers.{low_is, going_none, going_more, going_empty, going_closed}
 use Rattle.planes.proofs.spread.Goals as goal
 
 pub loop-left-init : goal.loop-left-init
@@ -52,9 +51,9 @@ loop-left-smaller c = omega (arith, and_le_r c.loop-left.left (c.loop-left.left 
 pub loop-left-preserved : goal.loop-left-preserved
 loop-left-preserved c = let l = c.loop-left in
     let low = low_is _ _ _ c.requires.1 c.wide-k.ensures in (
-    length-set l.p c.wide-k.result _ ∙ l.invariant.0,
-    omega (arith, l.invariant.1, and_le_r l.left (l.left - 1)),
-    λ f t. going_more _ _ _ _ f _ _ _ _ _ (omega arith) l.invariant.1 refl c.wide-k.ensures low (l.invariant.2 f t),
+      length-set l.p c.wide-k.result _ ∙ l.invariant.0,
+      omega (arith, l.invariant.1, and_le_r l.left (l.left - 1)),
+      λ f t. going_more _ _ _ _ f _ _ _ _ _ (omega arith) l.invariant.1 refl c.wide-k.ensures low (l.invariant.2 f t),
     )
 
 pub returns : goal.returns

@@ -1,13 +1,8 @@
-use Prim.Native.Nat.{ℕ, ◌-◌, ◌^◌, ◌<◌}
-use mathlib.Core.Path.{◌≡◌, refl, ◌∙◌}
-use lib.ListN.{length, length-set}
-use lib.Bits.{and_le_r}
-use lib.Count.{trailing_le}
-use native.Mathlib.Omega.{arith}
-use borrow.Author.Rules.{rules}
+use Prim.Native.Nat.{ℕ, ◌^◌, ◌<◌}
+use mathlib.Core.Path.{◌≡◌}
+use lib.ListN.{length}
 use Rattle.planes.specs.Words.{Told}
-use Rattle.planes.proofs.Bits.{lowest_lt}
-use Rattle.planes.proofs.Answers.{low_is, Going, going_none, going_more, going_empty, going_closed}
+use Rattle.planes.proofs.Answers.{Going}
 use Rattle.planes.proofs.spread.Given as goal
 
 abbrev pub invariant-loop-left : goal.invariant-loop-left

@@ -1,14 +1,13 @@
-use borrow.Author.Rules.{rules}
 use Rattle.ports.specs.Ports.{ports_of, find}
 use Rattle.ports.proofs.Keeping.{ports_length, ports_at}
 use Rattle.ports.proofs.Flags.{find_cons, find_nil}
-use Rattle.text.proofs.Blanklaws.{adds, adds_zero, adds_more}
+use Rattle.text.proofs.Blanklaws.{adds_zero, adds_more}
 use native.Mathlib.Nat.{add-zero}
 use borrow.Author.Tests.{lt-ltb, le-ltb}
 use lib.ListN.{drop}
-use Prim.Native.Nat.{◌+◌, ◌-◌, ◌≤◌}
+use Prim.Native.Nat.{◌+◌}
 use native.Mathlib.Omega.{arith}
-use mathlib.Core.Path.{◌≡◌, sym}
+use mathlib.Core.Path.{sym}
 use Rattle.ports.proofs.position.Goals as goal
 
 pub loop-k-init : goal.loop-k-init

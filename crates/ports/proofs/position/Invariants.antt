@@ -1,14 +1,8 @@
-use borrow.Author.Rules.{rules}
 use Rattle.ports.specs.Ports.{ports_of, find}
-use Rattle.ports.proofs.Keeping.{ports_length, ports_at}
-use Rattle.ports.proofs.Flags.{find_cons, find_nil}
-use Rattle.text.proofs.Blanklaws.{adds, adds_zero, adds_more}
-use native.Mathlib.Nat.{add-zero}
-use borrow.Author.Tests.{lt-ltb, le-ltb}
+use Rattle.text.proofs.Blanklaws.{adds}
 use lib.ListN.{drop}
-use Prim.Native.Nat.{◌+◌, ◌-◌, ◌≤◌}
-use native.Mathlib.Omega.{arith}
-use mathlib.Core.Path.{◌≡◌, sym}
+use Prim.Native.Nat.{◌-◌, ◌≤◌}
+use mathlib.Core.Path.{◌≡◌}
 use Rattle.ports.proofs.position.Given as goal
 
 abbrev pub invariant-loop-k : goal.invariant-loop-k

@@ -1,13 +1,10 @@
-use Rattle.ports.specs.Ports.{port_at, ports_of, down}
-use Rattle.grammar.specs.Header.{input_list, list_room}
 use Rattle.text.specs.Reader.{◌>>=◌, check, if}
 use Rattle.text.specs.Places.{part}
 use Rattle.ports.proofs.Steps.{list_one, list_none}
-use Rattle.base.specs.Limits.{input_limit}
 use Rattle.ports.proofs.Keeping.{fresh_test, fresh_raise}
 use Rattle.ports.proofs.Flags.{fresh_within}
 use borrow.Author.Tests.{eq-eqb, ne_eqb, not-true, not-false}
-use lib.ListN.{length, drop, length-set}
+use lib.ListN.{length-set}
 use Prim.Native.Nat.{◌+◌, ◌-◌, suc}
 use native.Mathlib.Omega.{arith}
 use mathlib.Core.Path.{◌≡◌, refl, sym, ◌∙◌}

@@ -1,17 +1,9 @@
 use Rattle.ports.specs.Ports.{port_at, ports_of, down}
 use Rattle.grammar.specs.Header.{input_list, list_room}
-use Rattle.text.specs.Reader.{◌>>=◌, check, if}
-use Rattle.text.specs.Places.{part}
-use Rattle.ports.proofs.Steps.{list_one, list_none}
 use Rattle.base.specs.Limits.{input_limit}
-use Rattle.ports.proofs.Keeping.{fresh_test, fresh_raise}
-use Rattle.ports.proofs.Flags.{fresh_within}
-use borrow.Author.Tests.{eq-eqb, ne_eqb, not-true, not-false}
-use lib.ListN.{length, drop, length-set}
-use Prim.Native.Nat.{◌+◌, ◌-◌, suc}
-use native.Mathlib.Omega.{arith}
-use mathlib.Core.Path.{◌≡◌, refl, sym, ◌∙◌}
-use borrow.Author.Rules.{rules}
+use lib.ListN.{length, drop}
+use Prim.Native.Nat.{◌+◌}
+use mathlib.Core.Path.{◌≡◌}
 use Rattle.ports.proofs.read_list.Given as goal
 
 abbrev pub invariant-loop-room : goal.invariant-loop-room

@@ -3,7 +3,6 @@ use Rattle.reading.specs.Told.{read_into}
 use Rattle.grammar.specs.Reading.{read}
 use borrow.Author.Tests.{eq-eqb, ne_eqb, le-leb, lt-leb}
 use native.Mathlib.Omega.{arith}
-use borrow.Author.Rules.{rules}
 use Rattle.reading.proofs.read.Goals as goal
 
 pub returns-then-area-ne-AREA : goal.returns-then-area-ne-AREA

@@ -1,6 +1,5 @@
 use Rattle.writing.specs.Written.{row_from}
 use Rattle.rows.proofs.Columns.{colon_refused, state_refused, output_refused, end_refused, row_drawn}
-use borrow.Author.Rules.{rules}
 use Rattle.rows.proofs.finish_row.Goals as goal
 
 pub returns-in_default : goal.returns-in_default

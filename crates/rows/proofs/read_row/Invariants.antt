@@ -1,14 +1,9 @@
-use Rattle.rows.proofs.Columns.{column_refused, column_more, columns_read}
-use Rattle.grammar.proofs.Behind.{behind, behind_none}
+use Rattle.grammar.proofs.Behind.{behind}
 use Rattle.grammar.specs.Rows.{columns}
-use Rattle.table.specs.Places.{inputs_at}
 use Rattle.base.specs.Limits.{input_limit}
-use lib.ListN.{length, get_or, take, drop, length-set}
-use native.Mathlib.Nat.{sub-zero}
+use lib.ListN.{length, take, drop}
 use Prim.Native.Nat.{◌-◌, ◌≤◌}
-use native.Mathlib.Omega.{arith}
-use mathlib.Core.Path.{◌≡◌, refl, sym, ◌∙◌}
-use borrow.Author.Rules.{rules}
+use mathlib.Core.Path.{◌≡◌}
 use Rattle.rows.proofs.read_row.Given as goal
 
 abbrev pub invariant-loop-column : goal.invariant-loop-column

@@ -1,12 +1,7 @@
-use Rattle.rows.proofs.Drawing.{Going, going_none, going_inputs, end_refused, end_early, end_drawn, row_refused, row_apart, row_more, full_refused, full_drawn}
-use Rattle.table.specs.Area.{decode}
-use Rattle.base.specs.Limits.{row_limit}
-use lib.ListN.{length, drop}
+use Rattle.rows.proofs.Drawing.{going_none, going_inputs, end_refused, end_early, end_drawn, row_refused, row_apart, row_more, full_refused, full_drawn}
 use borrow.Author.Tests.{not-true, not-false}
-use Prim.Native.Nat.{◌+◌, ◌-◌, suc}
 use native.Mathlib.Omega.{arith}
-use mathlib.Core.Path.{◌≡◌, refl, sym, ◌∙◌}
-use borrow.Author.Rules.{rules}
+use mathlib.Core.Path.{refl, sym, ◌∙◌}
 use Rattle.rows.proofs.read_rows.Goals as goal
 
 pub loop-k-init : goal.loop-k-init
@@ -33,14 +28,11 @@ returns-then-not-row_at c = end_drawn c.loop-k.invariant.0 c.skip_from-p.result 
 pub read_row-s-requires : goal.read_row-s-requires
 read_row-s-requires c = let l = c.loop-k in let g = l.invariant.0 in (omega (arith, g.shaped.bounded.inputs, g.inputs), going_inputs g)
 
-
 pub returns-in_default-s : goal.returns-in_default-s
 returns-in_default-s c = row_refused c.loop-k.invariant.0 c.skip_from-p.result c.skip_from-p.ensures c.loop-k-test.true (sym c.row_at.ensures ∙ not-false c.row_at.result c.if-not-row_at.false-raw) c.read_row-s.result _ c.read_row-s.ensures _ _ c.in_default-s.is _
 
-
 pub returns-then-not-row_agrees : goal.returns-then-not-row_agrees
 returns-then-not-row_agrees c = row_apart c.loop-k.invariant.0 c.skip_from-p.result c.skip_from-p.ensures c.loop-k-test.true (sym c.row_at.ensures ∙ not-false c.row_at.result c.if-not-row_at.false-raw) c.read_row-s.result _ c.read_row-s.ensures _ _ c.in-At-s.is c.row_agrees.result c.row_agrees.ensures (not-true _ c.if-not-row_agrees.true-raw)
-
 
 pub shape_of-a-then-row_at : goal.shape_of-a-then-row_at
 shape_of-a-then-row_at c = c.loop-k.invariant.1
@@ -62,4 +54,3 @@ shape_of-a-then-not-row_agrees c = c.read_row-s.auto.a ∙ c.loop-k.invariant.1
 
 pub shape_of-a-in_default-s : goal.shape_of-a-in_default-s
 shape_of-a-in_default-s c = c.read_row-s.auto.a ∙ c.loop-k.invariant.1
-

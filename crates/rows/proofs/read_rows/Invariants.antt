@@ -1,12 +1,9 @@
-use Rattle.rows.proofs.Drawing.{Going, going_none, going_inputs, end_refused, end_early, end_drawn, row_refused, row_apart, row_more, full_refused, full_drawn}
+use Rattle.rows.proofs.Drawing.{Going}
 use Rattle.table.specs.Area.{decode}
 use Rattle.base.specs.Limits.{row_limit}
-use lib.ListN.{length, drop}
-use borrow.Author.Tests.{not-true, not-false}
-use Prim.Native.Nat.{◌+◌, ◌-◌, suc}
-use native.Mathlib.Omega.{arith}
-use mathlib.Core.Path.{◌≡◌, refl, sym, ◌∙◌}
-use borrow.Author.Rules.{rules}
+use lib.ListN.{length}
+use Prim.Native.Nat.{◌-◌}
+use mathlib.Core.Path.{◌≡◌}
 use Rattle.rows.proofs.read_rows.Given as goal
 
 abbrev pub invariant-loop-k : goal.invariant-loop-k

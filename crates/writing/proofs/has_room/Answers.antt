@@ -1,5 +1,4 @@
 use Rattle.writing.specs.Written.{has_room}
-use borrow.Author.Rules.{rules}
 use Rattle.writing.proofs.has_room.Goals as goal
 
 pub returns : goal.returns

@@ -3,7 +3,6 @@ use mathlib.Core.Path.{sym}
 use Rattle.table.specs.Area.{area_byte, rows_byte}
 use Rattle.writing.specs.Written.{head_of}
 use borrow.Author.Tests.{le-ltb, lt-ltb}
-use borrow.Author.Rules.{rules}
 use Rattle.writing.proofs.head_byte.Goals as goal
 
 pub returns-then-p-lt-NAME_AT : goal.returns-then-p-lt-NAME_AT

@@ -1,4 +1,3 @@
-use borrow.Author.Rules.{rules}
 use borrow.Author.Tests.{eq-eqb, ne_eqb}
 use Rattle.writing.specs.Written.{last_byte}
 use Rattle.writing.proofs.last_byte.Goals as goal

@@ -1,14 +1,9 @@
-use Prim.Native.Nat.{◌+◌, ◌-◌, ◌≤◌}
-use mathlib.Core.Path.{◌≡◌, refl, sym, ◌∙◌}
-use native.Mathlib.Omega.{arith}
-use borrow.Author.Rules.{rules}
-use borrow.Author.Tests.{not-true, not-false}
+use Prim.Native.Nat.{◌-◌, ◌≤◌}
 use Rattle.base.proofs.Patched.{Patched}
-use Rattle.base.proofs.Listed.{Filled, filled_start, filled_more}
+use Rattle.base.proofs.Listed.{Filled}
 use Rattle.table.specs.Places.{count_at, area_size}
 use Rattle.table.specs.Area.{area_byte}
-use Rattle.writing.specs.Written.{head_of, head_written}
-use Rattle.writing.proofs.Headlaws.{Fits, fits_of, patched_from, patched_next, head_left}
+use Rattle.writing.specs.Written.{head_of}
 use Rattle.writing.proofs.write_head.Given as goal
 
 abbrev pub invariant-loop-p : goal.invariant-loop-p

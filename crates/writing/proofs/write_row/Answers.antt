@@ -1,15 +1,13 @@
 use Prim.Native.Nat.{◌+◌, ◌-◌, ◌*◌, ◌≤◌}
 use mathlib.Core.Path.{◌≡◌, sym, ◌∙◌}
 use native.Mathlib.Omega.{arith}
-use borrow.Author.Rules.{rules}
 use borrow.Author.Tests.{not-true, not-false}
 use lib.ListN.{length-set}
-use Rattle.base.proofs.Patched.{Patched, patched_none, patched_more}
+use Rattle.base.proofs.Patched.{patched_none, patched_more}
 use Rattle.base.specs.Limits.{input_limit}
 use Rattle.table.specs.Places.{row_size, count_at}
-use Rattle.table.specs.Area.{row_byte}
-use Rattle.writing.specs.Written.{row_from, last_byte, row_written}
-use Rattle.writing.proofs.Headlaws.{Room, room_of, patched_from, patched_next}
+use Rattle.writing.specs.Written.{row_written}
+use Rattle.writing.proofs.Headlaws.{room_of, patched_from, patched_next}
 use Rattle.writing.proofs.Rowlaws.{from_part, row_patched, row_left}
 use Rattle.writing.proofs.write_row.Goals as goal
 
@@ -67,10 +65,10 @@ loop-k-preserved c =
     let r = room_of _ (sym c.has_room.ensures ∙ not-false _ c.if-not-has_room.false-raw) in
     let a = c.args in
     let few : c.wide-n.result ≤ input_limit = omega (arith, r.inputs, c.wide-n.ensures) in (
-    omega arith,
-    patched_more _ _ _ _ _ _ (omega (arith, r.rows, r.long, c.wide.ensures))
-    (c.symbol_part.ensures ∙ sym (from_part c.wide-n.result a.symbols a.state a.output (omega arith) c.loop-k.k c.loop-k-test.true))
-    c.loop-k.invariant.1,
+      omega arith,
+      patched_more _ _ _ _ _ _ (omega (arith, r.rows, r.long, c.wide.ensures))
+          (c.symbol_part.ensures ∙ sym (from_part c.wide-n.result a.symbols a.state a.output (omega arith) c.loop-k.k c.loop-k-test.true))
+          c.loop-k.invariant.1,
     )
 
 pub loop-k-2-init : goal.loop-k-2-init

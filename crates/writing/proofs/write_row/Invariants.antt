@@ -1,16 +1,8 @@
 use Prim.Native.Nat.{◌+◌, ◌-◌, ◌*◌, ◌≤◌}
-use mathlib.Core.Path.{◌≡◌, sym, ◌∙◌}
-use native.Mathlib.Omega.{arith}
-use borrow.Author.Rules.{rules}
-use borrow.Author.Tests.{not-true, not-false}
-use lib.ListN.{length-set}
-use Rattle.base.proofs.Patched.{Patched, patched_none, patched_more}
-use Rattle.base.specs.Limits.{input_limit}
-use Rattle.table.specs.Places.{row_size, count_at}
+use Rattle.base.proofs.Patched.{Patched}
+use Rattle.table.specs.Places.{row_size}
 use Rattle.table.specs.Area.{row_byte}
-use Rattle.writing.specs.Written.{row_from, last_byte, row_written}
-use Rattle.writing.proofs.Headlaws.{Room, room_of, patched_from, patched_next}
-use Rattle.writing.proofs.Rowlaws.{from_part, row_patched, row_left}
+use Rattle.writing.specs.Written.{row_from, last_byte}
 use Rattle.writing.proofs.write_row.Given as goal
 
 abbrev pub invariant-loop-k : goal.invariant-loop-k
