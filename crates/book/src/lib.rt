@@ -62,7 +62,7 @@ fn open_lines(file: &[u8]) -> Opened
     let mut start: usize = 0;
     let mut count: usize = 0;
     let mut end = files::next(file, b'\n', 0);
-    while end < file.len() {
+    'lines: while end < file.len() {
         if !line::is_entry(&file[start..end], start) {
             return Opened::Refused(13, start);
         }

@@ -7,8 +7,8 @@ use Rattle.book.specs.Book.{opened_file}
 use Rattle.book.proofs.Opening.{from_here}
 use Rattle.book.proofs.open_lines.Given as goal
 
-abbrev pub invariant-loop-end : goal.invariant-loop-end
-invariant-loop-end l = (l.start ≤ length l.file) × (l.count ≤ l.start) × (l.end ≡ next_mark LF l.file l.start) × (opened_file l.file ≡ from_here l.file l.start l.count)
+abbrev pub invariant-lines : goal.invariant-lines
+invariant-lines l = (l.start ≤ length l.file) × (l.count ≤ l.start) × (l.end ≡ next_mark LF l.file l.start) × (opened_file l.file ≡ from_here l.file l.start l.count)
 
-abbrev pub decreases-loop-end : goal.decreases-loop-end
-decreases-loop-end l = length l.file - l.start
+abbrev pub decreases-lines : goal.decreases-lines
+decreases-lines l = length l.file - l.start

@@ -11,7 +11,7 @@ loop-k-init c = filled_none _ (suc input_limit) _
 
 pub row_or-row-requires : goal.row_or-row-requires
 unfolding cells
-row_or-row-requires c = (c.requires, c.cell_row-state.ensures ∙ rw c.inputs.ensures)
+row_or-row-requires c = (c.requires, (cc))
 
 pub loop-k-preserved : goal.loop-k-preserved
 unfolding cells
