@@ -108,7 +108,7 @@ shaped_of t v = record {
   columns = λ i h. (v.each i h).columns;
 }
 
--- the table that a well_formed_lem area holds is valid, and the area is its encoding
+-- the table that a well-formed area holds is valid, and the area is its encoding
 pub formed_valid : (a : List ℕ) → well_formed a ≡ true → Valid (decode a)
 unfolding well_formed
 formed_valid a e = valid_is (decode a) (both (canonical a) (valid (decode a)) (both (eqb (length a) area_size) _ e).1).1

@@ -7,19 +7,26 @@ use book::Opened;
 use disk::Loaded;
 use keeping::Counted;
 use run::Ran;
+use std::fs::File;
+use std::io::{Seek, SeekFrom};
+use std::rt::Env;
 
-fn finish(file: i32, path: &[u8], length: usize, stated: usize, total: usize) {
+// The longest path that is taken.
+const WORD: usize = 4096;
+
+fn finish(rt: &HostRuntime, file: &File, path: &[u8], length: usize, stated: usize, total: usize) {
     if length < stated {
-        if !places::take_away(file, length) {
-            os::fail(path);
+        if let Err(e) = places::take_away(file, length) {
+            disk::fail(rt, path, e);
             return;
         }
     }
-    say::all_stand(total);
+    say::all_stand(rt, total);
 }
 
 fn keep_from(
-    file: i32,
+    rt: &HostRuntime,
+    file: &File,
     path: &[u8],
     text: &[u8],
     total: usize,
@@ -29,22 +36,23 @@ fn keep_from(
     good: usize,
 ) {
     if good == 0 {
-        if !places::flush_folder(path) {
-            os::fail(path);
+        if let Err(e) = places::flush_folder(rt, path) {
+            disk::fail(rt, path, e);
             return;
         }
     }
-    let r = run::go_through(file, path, text, area, book, good, total);
+    let r = run::go_through(rt, file, path, text, area, book, good, total);
     match r {
         Ran::All(length) => {
-            finish(file, path, length, stated, total);
+            finish(rt, file, path, length, stated, total);
         }
         Ran::Stopped => {}
     }
 }
 
 fn keep_in(
-    file: i32,
+    rt: &HostRuntime,
+    file: &File,
     path: &[u8],
     text: &[u8],
     total: usize,
@@ -56,82 +64,89 @@ fn keep_in(
     match o {
         Opened::Book(g) => {
             if total < g.entries {
-                say::surplus(g.entries, total);
+                say::surplus(rt, g.entries, total);
                 return;
             }
-            keep_from(file, path, text, total, area, book, stated, g.good);
+            keep_from(rt, file, path, text, total, area, book, stated, g.good);
         }
         Opened::Refused(number, place) => {
-            say::refusal(number, place);
+            say::refusal(rt, number, place);
         }
     }
 }
 
 // One byte more than a book may have is loaded, so that a longer file is refused and not cut short.
-fn keep_file(file: i32, path: &[u8], text: &[u8], total: usize, area: &mut [u8]) {
+fn keep_file(
+    rt: &HostRuntime,
+    file: &mut File,
+    path: &[u8],
+    text: &[u8],
+    total: usize,
+    area: &mut [u8],
+) {
     let mut book = [0u8; base::BOOK + 1];
     let l = disk::load_from(file, &mut book);
     match l {
         Loaded::Bytes(stated) => {
-            keep_in(file, path, text, total, area, &mut book, stated);
+            keep_in(rt, file, path, text, total, area, &mut book, stated);
         }
-        Loaded::Failed => {
-            os::fail(path);
+        Loaded::Failed(e) => {
+            disk::fail(rt, path, e);
         }
     }
 }
 
 // What has no places, as a pipe, would be waited for.
-fn keep_at(path: &[u8], text: &[u8], total: usize, area: &mut [u8]) {
-    let file = places::open_or_create(path);
-    if file < 0 {
-        os::fail(path);
-        return;
+fn keep_at(rt: &HostRuntime, path: &[u8], text: &[u8], total: usize, area: &mut [u8]) {
+    match places::open_or_create(rt, path) {
+        Ok(mut file) => match file.seek(SeekFrom::Start(0)) {
+            Ok(_) => {
+                keep_file(rt, &mut file, path, text, total, area);
+            }
+            Err(e) => {
+                disk::fail(rt, path, e);
+            }
+        },
+        Err(e) => {
+            disk::fail(rt, path, e);
+        }
     }
-    if libc::lseek(file, 0, libc::SEEK_SET) < 0 {
-        os::fail(path);
-        return;
-    }
-    keep_file(file, path, text, total, area);
-    libc::close(file);
 }
 
 // The book is opened, or made, only where the whole library can be read.
-fn keep_text(text: &[u8], path: &[u8]) {
+fn keep_text(rt: &HostRuntime, text: &[u8], path: &[u8]) {
     let mut area = [0u8; table::AREA];
     let c = keeping::count(text, &mut area);
     match c {
         Counted::Primitives(total) => {
-            keep_at(path, text, total, &mut area);
+            keep_at(rt, path, text, total, &mut area);
         }
         Counted::Refused(number, place) => {
-            say::refusal(number, place);
+            say::refusal(rt, number, place);
         }
     }
 }
 
 // One byte more than a text may have is loaded, so that a longer one is refused as such.
-fn keep(library: &[u8], path: &[u8]) {
+fn keep(rt: &HostRuntime, library: &[u8], path: &[u8]) {
     let mut text = [0u8; base::TEXT + 1];
-    let l = disk::load(library, &mut text);
+    let l = disk::load(rt, library, &mut text);
     let Loaded::Bytes(n) = l else {
         return;
     };
-    keep_text(&text[..n], path);
+    keep_text(rt, &text[..n], path);
 }
 
-fn main() {
-    let mut library = io::buffer();
-    let n = os::arg(1, &mut library);
-    if os::errno() != 0 {
-        say::how_to_use();
+fn main(rt: HostRuntime) {
+    let mut library = [0u8; WORD];
+    let Ok(n) = rt.arg(1, &mut library) else {
+        say::how_to_use(&rt);
         return;
-    }
-    let mut path = io::buffer();
-    let m = os::arg(2, &mut path);
-    if os::errno() != 0 {
-        say::how_to_use();
+    };
+    let mut path = [0u8; WORD];
+    let Ok(m) = rt.arg(2, &mut path) else {
+        say::how_to_use(&rt);
         return;
-    }
-    keep(&library[..n], &path[..m]);
+    };
+    keep(&rt, &library[..n], &path[..m]);
 }

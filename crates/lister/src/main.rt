@@ -6,8 +6,8 @@ ghost use Rattle.std.specs.Prelude.{◌≤◌, length};
 ghost use Rattle.lister.specs.Ahead.{Ahead};
 
 use book::Appended;
-use libc::STDOUT_FILENO;
 use listing::Next;
+use std::io::Read;
 use verdict::Finding;
 
 // Where the list goes on and how many bytes are gathered, or that it ends.
@@ -23,24 +23,29 @@ const LINE: usize = 128;
 // Lines are gathered, since a write for each would cost more than its verdict.
 const GATHERED: usize = 4096;
 
-fn print_number(n: usize) {
-    io::print_decimal(STDOUT_FILENO, n as u64);
+// What standard output does not take is not said, and the list goes on.
+fn print(to: &impl Print, words: &[u8]) {
+    let _ = to.write_all(words);
 }
 
-fn print_refusal(number: u8, place: usize) {
-    io::write_all(STDOUT_FILENO, b"refused ");
-    print_number(base::wide(number));
-    io::write_all(STDOUT_FILENO, b" at ");
-    print_number(place);
-    io::write_all(STDOUT_FILENO, b"\n");
+fn print_number(to: &impl Print, n: usize) {
+    let _ = to.print(n);
 }
 
-fn write_out(out: &[u8], n: usize) {
-    io::write_all(STDOUT_FILENO, text::part(out, 0, n));
+fn print_refusal(to: &impl Print, number: u8, place: usize) {
+    print(to, b"refused ");
+    print_number(to, base::wide(number));
+    print(to, b" at ");
+    print_number(to, place);
+    print(to, b"\n");
+}
+
+fn write_out(to: &impl Print, out: &[u8], n: usize) {
+    print(to, text::part(out, 0, n));
 }
 
 // Where the next line goes: what is gathered is written first where the line may not fit.
-fn room(out: &[u8], n: usize) -> usize
+fn room(to: &impl Print, out: &[u8], n: usize) -> usize
     ensures { result ≤ length out.now }
 {
     if n <= out.len() {
@@ -48,7 +53,7 @@ fn room(out: &[u8], n: usize) -> usize
             return n;
         }
     }
-    write_out(out, n);
+    write_out(to, out, n);
     0
 }
 
@@ -69,8 +74,8 @@ fn ended(out: &mut [u8], n: usize, m: usize) -> usize {
 }
 
 // The entry is made as the first of a book of its own.
-fn add_line(area: &[u8], finding: Finding, out: &mut [u8], n: usize) -> usize {
-    let from = room(out, n);
+fn add_line(to: &impl Print, area: &[u8], finding: Finding, out: &mut [u8], n: usize) -> usize {
+    let from = room(to, out, n);
     let a = book::append(
         &mut out[from..],
         0,
@@ -82,39 +87,46 @@ fn add_line(area: &[u8], finding: Finding, out: &mut [u8], n: usize) -> usize {
     match a {
         Appended::Stated(m) => ended(out, from, m),
         Appended::Refused(number, place) => {
-            write_out(out, from);
-            print_refusal(number, place);
+            write_out(to, out, from);
+            print_refusal(to, number, place);
             0
         }
     }
 }
 
-fn list_next(text: &[u8], start: usize, area: &mut [u8], out: &mut [u8], n: usize) -> Listed
+fn list_next(
+    to: &impl Print,
+    text: &[u8],
+    start: usize,
+    area: &mut [u8],
+    out: &mut [u8],
+    n: usize,
+) -> Listed
     ensures { Ahead text.now start result }
 {
     let v = listing::next_verdict(text, start, area);
     match v {
         Next::Verdict(f, next) => {
-            let k = add_line(area, f, out, n);
+            let k = add_line(to, area, f, out, n);
             Listed::At(next, k)
         }
         Next::End => {
-            write_out(out, n);
+            write_out(to, out, n);
             Listed::Done
         }
         Next::Refused(number, place) => {
-            write_out(out, n);
-            print_refusal(number, place);
+            write_out(to, out, n);
+            print_refusal(to, number, place);
             Listed::Done
         }
     }
 }
 
-fn list(text: &[u8], area: &mut [u8], out: &mut [u8]) {
+fn list(to: &impl Print, text: &[u8], area: &mut [u8], out: &mut [u8]) {
     let mut at: usize = 0;
     let mut n: usize = 0;
     while at <= text.len() {
-        let l = list_next(text, at, area, out, n);
+        let l = list_next(to, text, at, area, out, n);
         match l {
             Listed::At(next, k) => {
                 at = next;
@@ -127,15 +139,33 @@ fn list(text: &[u8], area: &mut [u8], out: &mut [u8]) {
     }
 }
 
-// One byte more than a text may have is read, so that a longer one is refused as such.
-fn list_input(input: &mut [u8]) {
-    let n = io::read_full(libc::STDIN_FILENO, input);
-    let mut area = [0u8; table::AREA];
-    let mut out = [0u8; GATHERED];
-    list(&input[..n], &mut area, &mut out);
+// Reads until the buffer is full, the input ends or a read fails.
+fn read_full(from: &mut impl Read, buf: &mut [u8]) -> usize
+    ensures { result ≤ length buf.new }
+{
+    let mut n: usize = 0;
+    while n < buf.len() {
+        match from.read(&mut buf[n..]) {
+            Ok(0) | Err(_) => {
+                return n;
+            }
+            Ok(more) => {
+                n += more;
+            }
+        }
+    }
+    n
 }
 
-fn main() {
+// One byte more than a text may have is read, so that a longer one is refused as such.
+fn list_input(rt: &HostRuntime, input: &mut [u8]) {
+    let n = read_full(&mut rt.stdin(), input);
+    let mut area = [0u8; table::AREA];
+    let mut out = [0u8; GATHERED];
+    list(rt, &input[..n], &mut area, &mut out);
+}
+
+fn main(rt: HostRuntime) {
     let mut input = [0u8; base::TEXT + 1];
-    list_input(&mut input);
+    list_input(&rt, &mut input);
 }

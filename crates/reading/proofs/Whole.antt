@@ -1,11 +1,11 @@
 -- The whole primitive. Assumes nothing.
 use mathlib.Core.Path.{◌≡◌, refl, sym, ◌∙◌}
-use mathlib.Core.List.{List, []}
+use mathlib.Core.List.{List, [], ◌++◌, append-nil}
 use mathlib.Core.Bool.{Bool}
 use Prim.Native.Nat.{ℕ, ◌≤◌, ◌<◌}
 use native.Mathlib.Omega.{arith}
-use lib.ListN.{length, drop, drop_of_length-le}
-use lib.Seq.{drop-cons}
+use lib.ListN.{length, take, drop, drop_of_length-le}
+use lib.Seq.{drop-cons, take-length}
 use borrow.Author.Tests.{eq-eqb, le-leb, leb-true}
 use Rattle.base.specs.Limits.{input_limit, name_limit, row_limit, text_limit}
 use Rattle.value.specs.declared.Ternary.{Ternary}
@@ -129,6 +129,9 @@ begins_there t i h = rw (drop-cons t i 0 h)
 
 ends_there : (t : List ℕ) (i : ℕ) → length t ≤ i → or_end (got tt i (drop i t)) ≡ end
 ends_there t i h = rw (drop_of_length-le t h)
+
+copied : (d a : List ℕ) → length a ≡ length d → take (length d) d ++ drop (length d) a ≡ d
+copied d a e = rw (take-length, drop_of_length-le a {i = length d} (omega arith), append-nil)
 
 -- ---- the primitive as it is drawn
 

@@ -16,7 +16,7 @@ Apart from to e = (to < e) ⊎ (to ≡ from + 1)
 -- what was stored last ends here
 abbrev pub UpTo : ℕ → Held → Type 0
 UpTo to (To n) = n ≡ to
-UpTo to Failed = Unit {0}
+UpTo to (Failed e) = Unit {0}
 
 -- one primitive more, and its entry is the only one more in the book; "done" at the text's end
 abbrev pub Goes : List ℕ → ℕ → List ℕ → ℕ → Went → List ℕ → Type 0

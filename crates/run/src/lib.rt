@@ -7,12 +7,14 @@ ghost use Rattle.keeping.specs.Keeping.{Holds};
 ghost use Rattle.run.specs.Run.{Apart, UpTo, Goes, Runs};
 
 use keeping::Settled;
+use std::fs::File;
+use std::io::Error;
 
 // Up to which place the file holds the book, or that a write failed.
 #[derive(Clone, Copy)]
 pub enum Held {
     To(usize),
-    Failed,
+    Failed(Error),
 }
 
 // Where the run goes on in the library and in the book, or that it ends.
@@ -33,26 +35,26 @@ pub enum Ran {
 // ---- how an entry is stored
 
 // Stores a part of the entry that ends at `end`, and flushes it.
-fn store_part(file: i32, book: &[u8], from: usize, to: usize, end: usize) -> Held
+fn store_part(file: &File, book: &[u8], from: usize, to: usize, end: usize) -> Held
     requires apart { Apart from to end }
     requires from_le_to { (from ≤ to) × (to ≤ length book.now) }
     ensures { UpTo to result }
 {
-    if disk::store(file, &book[from..to], from) {
-        return Held::To(to);
+    match disk::store(file, &book[from..to], from) {
+        Ok(()) => Held::To(to),
+        Err(e) => Held::Failed(e),
     }
-    Held::Failed
 }
 
 // All bytes but the last are stored before the last one is.
-fn store_entry(file: i32, book: &[u8], at: usize, end: usize) -> Held
+fn store_entry(file: &File, book: &[u8], at: usize, end: usize) -> Held
     requires { (at < end) × (end ≤ length book.now) }
     ensures { UpTo end result }
 {
     let h = store_part(file, book, at, end - 1, end);
     match h {
         Held::To(n) => store_part(file, book, n, n + 1, end),
-        Held::Failed => Held::Failed,
+        Held::Failed(e) => Held::Failed(e),
     }
 }
 
@@ -60,7 +62,8 @@ fn store_entry(file: i32, book: &[u8], at: usize, end: usize) -> Held
 
 // The next primitive's entry is kept or stored.
 fn go_on(
-    file: i32,
+    rt: &HostRuntime,
+    file: &File,
     path: &[u8],
     text: &[u8],
     start: usize,
@@ -77,29 +80,29 @@ fn go_on(
     let s = keeping::settle(text, start, area, book, at, good);
     match s {
         Settled::Kept(next, end) => {
-            say::entry_done(b"kept ", k, total, table::name_in(area));
+            say::entry_done(rt, b"kept ", k, total, table::name_in(area));
             Went::On(next, end)
         }
         Settled::Added(next, end) => {
             let h = store_entry(file, book, at, end);
             match h {
                 Held::To(n) => {
-                    say::entry_done(b"wrote ", k, total, table::name_in(area));
+                    say::entry_done(rt, b"wrote ", k, total, table::name_in(area));
                     Went::On(next, n)
                 }
-                Held::Failed => {
-                    os::fail(path);
+                Held::Failed(e) => {
+                    disk::fail(rt, path, e);
                     Went::Stopped
                 }
             }
         }
         Settled::Differs => {
-            say::difference(book, at, k, table::name_in(area));
+            say::difference(rt, book, at, k, table::name_in(area));
             Went::Stopped
         }
         Settled::End => Went::Done,
         Settled::Refused(number, place) => {
-            say::refusal(number, place);
+            say::refusal(rt, number, place);
             Went::Stopped
         }
     }
@@ -107,7 +110,8 @@ fn go_on(
 
 // Every entry that stands is compared before the first one is stored, since they come in the library's order.
 pub fn go_through(
-    file: i32,
+    rt: &HostRuntime,
+    file: &File,
     path: &[u8],
     text: &[u8],
     area: &mut [u8],
@@ -121,7 +125,7 @@ pub fn go_through(
     let mut at: usize = 0;
     let mut k: usize = 1;
     loop {
-        let w = go_on(file, path, text, start, area, book, at, good, k, total);
+        let w = go_on(rt, file, path, text, start, area, book, at, good, k, total);
         match w {
             Went::On(next, end) => {
                 start = next;

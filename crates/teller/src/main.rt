@@ -3,27 +3,35 @@
 // teller BOOK [NAME]: what a book holds, or the refusal of a damaged one.
 use book::Opened;
 use disk::Loaded;
-use libc::STDOUT_FILENO;
+use std::rt::Env;
 
-fn print_number(n: usize) {
-    io::print_decimal(STDOUT_FILENO, n as u64);
+// The longest path and name that are taken.
+const WORD: usize = 4096;
+
+// What standard output does not take is not told.
+fn print(to: &impl Print, words: &[u8]) {
+    let _ = to.write_all(words);
 }
 
-fn print_refusal(number: u8, place: usize) {
-    io::write_all(STDOUT_FILENO, b"refused ");
-    print_number(base::wide(number));
-    io::write_all(STDOUT_FILENO, b" at ");
-    print_number(place);
-    io::write_all(STDOUT_FILENO, b"\n");
+fn print_number(to: &impl Print, n: usize) {
+    let _ = to.print(n);
 }
 
-fn print_good(entries: usize, good: usize, torn: usize) {
-    print_number(entries);
-    io::write_all(STDOUT_FILENO, b" entries, good length ");
-    print_number(good);
-    io::write_all(STDOUT_FILENO, b", torn bytes ");
-    print_number(torn);
-    io::write_all(STDOUT_FILENO, b"\n");
+fn print_refusal(to: &impl Print, number: u8, place: usize) {
+    print(to, b"refused ");
+    print_number(to, base::wide(number));
+    print(to, b" at ");
+    print_number(to, place);
+    print(to, b"\n");
+}
+
+fn print_good(to: &impl Print, entries: usize, good: usize, torn: usize) {
+    print_number(to, entries);
+    print(to, b" entries, good length ");
+    print_number(to, good);
+    print(to, b", torn bytes ");
+    print_number(to, torn);
+    print(to, b"\n");
 }
 
 // The line without the space and the trailer at its end.
@@ -34,11 +42,11 @@ fn trimmed(line: &[u8]) -> &[u8] {
     text::part(line, 0, line.len() - 7)
 }
 
-fn print_line(line: &[u8], k: usize) {
-    print_number(k);
-    io::write_all(STDOUT_FILENO, b" ");
-    io::write_all(STDOUT_FILENO, trimmed(line));
-    io::write_all(STDOUT_FILENO, b"\n");
+fn print_line(to: &impl Print, line: &[u8], k: usize) {
+    print_number(to, k);
+    print(to, b" ");
+    print(to, trimmed(line));
+    print(to, b"\n");
 }
 
 // The line's name is the one that is asked for, or none is.
@@ -46,61 +54,61 @@ fn is_wanted(line: &[u8], name: &[u8]) -> bool {
     if name.len() == 0 {
         return true;
     }
-    let e = bytes::scan::find(line, 0, line.len(), b' ');
+    let e = files::next(line, b' ', 0);
     text::same(text::part(line, 0, e), name)
 }
 
-fn print_entry(line: &[u8], k: usize, name: &[u8]) {
+fn print_entry(to: &impl Print, line: &[u8], k: usize, name: &[u8]) {
     if is_wanted(line, name) {
-        print_line(line, k);
+        print_line(to, line, k);
     }
 }
 
-fn print_entries(book: &[u8], good: usize, name: &[u8]) {
+#[tactic(auto, using(files::proofs::Parts::next_ge))]
+fn print_entries(to: &impl Print, book: &[u8], good: usize, name: &[u8]) {
     let mut at: usize = 0;
     let mut k: usize = 1;
     while at < good {
-        let e = bytes::scan::find(book, at, book.len(), b'\n');
+        let e = files::next(book, b'\n', at);
         if book.len() <= e {
             return;
         }
-        print_entry(&book[at..e], k, name);
+        print_entry(to, &book[at..e], k, name);
         at = e + 1;
         k += 1;
     }
 }
 
-fn tell_book(book: &[u8], name: &[u8]) {
+fn tell_book(to: &impl Print, book: &[u8], name: &[u8]) {
     let o = book::open_book(book, book.len());
     match o {
         Opened::Book(g) => {
-            print_good(g.entries, g.good, g.torn);
-            print_entries(book, g.good, name);
+            print_good(to, g.entries, g.good, g.torn);
+            print_entries(to, book, g.good, name);
         }
         Opened::Refused(number, place) => {
-            print_refusal(number, place);
+            print_refusal(to, number, place);
         }
     }
 }
 
 // One byte more than a book may have is loaded, so that a longer file is refused and not cut short.
-fn tell(path: &[u8], name: &[u8]) {
+fn tell(rt: &HostRuntime, path: &[u8], name: &[u8]) {
     let mut file = [0u8; base::BOOK + 1];
-    let l = disk::load(path, &mut file);
+    let l = disk::load(rt, path, &mut file);
     let Loaded::Bytes(n) = l else {
         return;
     };
-    tell_book(&file[..n], name);
+    tell_book(rt, &file[..n], name);
 }
 
-fn main() {
-    let mut path = io::buffer();
-    let length = os::arg(1, &mut path);
-    if os::errno() != 0 {
-        io::write_all(libc::STDERR_FILENO, b"use: teller BOOK [NAME]\n");
+fn main(rt: HostRuntime) {
+    let mut path = [0u8; WORD];
+    let Ok(length) = rt.arg(1, &mut path) else {
+        let _ = rt.eprintln("use: teller BOOK [NAME]");
         return;
-    }
-    let mut name = io::buffer();
-    let m = os::arg(2, &mut name);
-    tell(&path[..length], &name[..m]);
+    };
+    let mut name = [0u8; WORD];
+    let m = rt.arg(2, &mut name).unwrap_or(0);
+    tell(&rt, &path[..length], &name[..m]);
 }

@@ -1,0 +1,10 @@
+use Rattle.std.proofs.Common.{length, ◌-◌, ◌+◌, ◌≤◌, ◌≡◌}
+use Rattle.keeping.specs.Keeping.{Holds}
+use Rattle.run.proofs.go_through.Given as goal
+
+abbrev pub invariant-loop-next : goal.invariant-loop-next
+invariant-loop-next l =
+    Holds l.text l.start l.book l.at × (l.start ≤ length l.text) × (l.k ≤ l.start + 1) × (length l.area ≡ length l.initial.area) × (length l.book ≡ length l.initial.book)
+
+abbrev pub decreases-loop-next : goal.decreases-loop-next
+decreases-loop-next l = length l.text - l.start
