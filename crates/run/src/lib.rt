@@ -84,6 +84,9 @@ fn go_on(
             Went::On(next, end)
         }
         Settled::Added(next, end) => {
+            // What settle says of an entry that it added.
+            prove!(at < end);
+            prove!(end <= book.len());
             let h = store_entry(file, book, at, end);
             match h {
                 Held::To(n) => {
