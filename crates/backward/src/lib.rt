@@ -60,7 +60,8 @@ pub fn entry_before(book: &[u8], at: usize) -> Fetched
         return Fetched::Refused(16, 0);
     }
     let s = start_before(book, at);
-    if book[at - 1] != b'\n' {
+    let no_lf = book[at - 1] != b'\n';
+    if no_lf {
         return Fetched::Refused(13, s);
     }
     if s < at {

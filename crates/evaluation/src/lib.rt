@@ -129,7 +129,8 @@ pub fn evaluate(area: &[u8], prev: &[u8], cur: &[u8], old: u8, order: &[u8]) -> 
         return Evaluated::Refused(11, 0);
     }
     let fault = first_fault(n, order);
-    if fault < order.len() {
+    let faulty = fault < order.len();
+    if faulty {
         return Evaluated::Refused(12, fault);
     }
     Evaluated::Output(step::follow(

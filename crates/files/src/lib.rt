@@ -10,7 +10,8 @@ pub fn after(s: &[u8], mark: u8, k: usize) -> usize
     let mut left = k;
     let mut i: usize = 0;
     while i < s.len() {
-        if left == 0 {
+        let none_left = left == 0;
+        if none_left {
             return i;
         }
         if s[i] == mark {

@@ -180,7 +180,9 @@ fn cells_agree(a: &[u8], s: &[[u16; CELLS]; base::ROWS], c: &[u16; CELLS], j: us
 {
     let mut i: usize = 0;
     while i < j {
-        if cells_contradict(a, s, c, i, j) {
+        let met = cells_contradict(a, s, c, i, j);
+        let clash = met;
+        if clash {
             return false;
         }
         i += 1;

@@ -137,7 +137,8 @@ fn read_declarations(
                 j,
             );
         }
-        if none {
+        let undeclared = none;
+        if undeclared {
             return HeadStep::At(
                 Head {
                     inputs: n,

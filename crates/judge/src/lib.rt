@@ -114,7 +114,8 @@ fn finding(
         let i = p / base::INPUTS;
         let j = p % base::INPUTS;
         let r = pair_first(s, all, outs, n, m, c, i, j);
-        if r < c {
+        let found = r < c;
+        if found {
             return Finding::Dependent(witness_at(s, all, outs, n, m, i, j, r));
         }
         p += 1;

@@ -101,7 +101,8 @@ fn place(
 ) -> Settled
     ensures { Places (handed (decode area.now) finding) next book.old at good result book.new }
 {
-    if good <= at {
+    let behind = good <= at;
+    if behind {
         return add(area, finding, next, book, at);
     }
     let size = standing_length(area, finding, book, at);

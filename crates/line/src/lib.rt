@@ -152,7 +152,8 @@ pub fn is_entry(line: &[u8], s: usize) -> bool
     if whole == 0 {
         return false;
     }
-    if whole - 1 != line.len() {
+    let longer = whole - 1 != line.len();
+    if longer {
         return false;
     }
     let mut k: usize = 0;

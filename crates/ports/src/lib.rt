@@ -38,7 +38,8 @@ fn is_fresh(flags: [bool; PORTS], n: usize, j: usize) -> bool
     requires { n ≤ input_limit }
     ensures { result ≡ (not (eqb j 0) && is_down (placed (n + 1) j) flags) }
 {
-    if j == 0 {
+    let is_first = j == 0;
+    if is_first {
         return false;
     }
     if n < j {

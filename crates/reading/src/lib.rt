@@ -65,7 +65,8 @@ fn read_primitive(text: &[u8], at: usize, draft: &mut [u8]) -> Step
 pub fn read(text: &[u8], start: usize, area: &mut [u8]) -> Reading
     ensures { read_into text.now start area.old ≡ out result area.new }
 {
-    if area.len() != table::AREA {
+    let other_size = area.len() != table::AREA;
+    if other_size {
         return Reading::Refused(10, 0);
     }
     if base::TEXT < text.len() {

@@ -161,7 +161,8 @@ fn to_line(text: &[u8], at: usize) -> usize
     let mut i = at;
     let mut m: usize = 0;
     while i < text.len() {
-        if text[i] == b'\n' {
+        let at_lf = text[i] == b'\n';
+        if at_lf {
             return m;
         }
         i += 1;

@@ -10,11 +10,11 @@ pub returns-then-not-good_values : goal.returns-then-not-good_values
 returns-then-not-good_values c = not_values _ _ _ _ _ _ (sym c.well_formed-2.ensures ∙ not-false _ c.if-not-well_formed.false-raw) c.inputs-n.ensures
     (sym c.good_values.ensures ∙ not-true _ c.if-not-good_values.true-raw)
 
-pub returns-then-fault-order : goal.returns-then-fault-order
-returns-then-fault-order c = not_order _ _ _ _ _ _ (sym c.well_formed-2.ensures ∙ not-false _ c.if-not-well_formed.false-raw) c.inputs-n.ensures _
-    (sym c.good_values.ensures ∙ not-false _ c.if-not-good_values.false-raw) c.first_fault-fault.ensures c.if-fault-order.true
+pub returns-then-faulty : goal.returns-then-faulty
+returns-then-faulty c = not_order _ _ _ _ _ _ (sym c.well_formed-2.ensures ∙ not-false _ c.if-not-well_formed.false-raw) c.inputs-n.ensures _
+    (sym c.good_values.ensures ∙ not-false _ c.if-not-good_values.false-raw) c.first_fault-fault.ensures c.if-faulty.true
 
 pub returns : goal.returns
 returns c = answers _ _ _ _ _ _ (sym c.well_formed-2.ensures ∙ not-false _ c.if-not-well_formed.false-raw) c.inputs-n.ensures _
-    (sym c.good_values.ensures ∙ not-false _ c.if-not-good_values.false-raw) c.first_fault-fault.ensures _ _ c.if-fault-order.false c.value_said.ensures
+    (sym c.good_values.ensures ∙ not-false _ c.if-not-good_values.false-raw) c.first_fault-fault.ensures _ _ c.if-faulty.false c.value_said.ensures
     (rw (c.vector_in.ensures, c.vector_in-2.ensures) at c.follow.ensures)

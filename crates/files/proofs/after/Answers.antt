@@ -9,14 +9,14 @@ use Rattle.files.proofs.after.Goals.{then-s-i, else-s-i}
 pub loop-i-init : goal.loop-i-init
 loop-i-init c = sym (zero-add _)
 
-pub returns-then-left-eq0 : goal.returns-then-left-eq0
-returns-then-left-eq0 c = rw (c.loop-i.invariant, c.if-left-eq0.true, walk_stop)
+pub returns-then-none_left : goal.returns-then-none_left
+returns-then-none_left c = rw (c.loop-i.invariant, c.if-none_left.true, walk_stop)
 
 pub loop-i-preserved : goal.loop-i-preserved
 loop-i-preserved c =
     elim c.if-s-i.branch [
-      | then-s-i w ↦ rw w.left-is (c.loop-i.invariant ∙ walk_mark _ _ _ _ c.loop-i-test.true c.if-left-eq0.false w.if-s-i.true)
-      | else-s-i w ↦ rw w.left-is (c.loop-i.invariant ∙ walk_other _ _ _ _ c.loop-i-test.true c.if-left-eq0.false w.if-s-i.false)
+      | then-s-i w ↦ rw w.left-is (c.loop-i.invariant ∙ walk_mark _ _ _ _ c.loop-i-test.true c.if-none_left.false w.if-s-i.true)
+      | else-s-i w ↦ rw w.left-is (c.loop-i.invariant ∙ walk_other _ _ _ _ c.loop-i-test.true c.if-none_left.false w.if-s-i.false)
     ]
 
 pub returns : goal.returns

@@ -10,17 +10,17 @@ pub loop-i-init : goal.loop-i-init
 unfolding row_agrees
 loop-i-init c = (search rules, every_none _)
 
-pub cells_contradict-requires : goal.cells_contradict-requires
+pub cells_contradict-met-requires : goal.cells_contradict-met-requires
 unfolding row_agrees
-cells_contradict-requires c = (c.loop-i-test.true, c.requires.0, c.requires.1)
+cells_contradict-met-requires c = (c.loop-i-test.true, c.requires.0, c.requires.1)
 
-pub returns-then-cells_contradict : goal.returns-then-cells_contradict
+pub returns-then-clash : goal.returns-then-clash
 unfolding row_agrees
-returns-then-cells_contradict c = sym (every_fails _ _ c.loop-i.i (omega arith) (ap not (sym c.cells_contradict.ensures ∙ c.if-cells_contradict.true)))
+returns-then-clash c = sym (every_fails _ _ c.loop-i.i (omega arith) (ap not (sym c.cells_contradict-met.ensures ∙ c.if-clash.true)))
 
 pub loop-i-preserved : goal.loop-i-preserved
 unfolding row_agrees
-loop-i-preserved c = (omega arith, every_more _ _ c.loop-i.invariant.1 (ap not (sym c.cells_contradict.ensures ∙ c.if-cells_contradict.false)))
+loop-i-preserved c = (omega arith, every_more _ _ c.loop-i.invariant.1 (ap not (sym c.cells_contradict-met.ensures ∙ c.if-clash.false)))
 
 pub returns : goal.returns
 unfolding row_agrees

@@ -14,22 +14,6 @@ pub loop-k-init : goal.loop-k-init
 unfolding columns_valid
 loop-k-init c = (search rules, every_none _)
 
-pub offset_bounds-c-k : goal.offset_bounds-c-k
-unfolding columns_valid
-offset_bounds-c-k c = omega (arith, c.requires.few)
-
-pub bounds-c-k : goal.bounds-c-k
-unfolding columns_valid
-bounds-c-k c = omega (arith, c.requires.few)
-
-pub offset_bounds-c-k-in-loop-k : goal.offset_bounds-c-k-in-loop-k
-unfolding columns_valid
-offset_bounds-c-k-in-loop-k c = omega (arith, c.requires.few)
-
-pub bounds-c-k-in-loop-k : goal.bounds-c-k-in-loop-k
-unfolding columns_valid
-bounds-c-k-in-loop-k c = omega (arith, c.requires.few)
-
 pub returns-then-not-c-k : goal.returns-then-not-c-k
 unfolding columns_valid
 returns-then-not-c-k c =

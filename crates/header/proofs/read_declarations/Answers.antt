@@ -51,13 +51,13 @@ pub returns-then-k-eq3 : goal.returns-then-k-eq3
 unfolding check
 returns-then-k-eq3 c = let l = c.loop-room in let t = c.args.text.now in let n = c.args.n in let q = port_at c.args.text.now c.args.starts c.args.ends 0 in let ps = ports_of c.args.text.now c.args.starts c.args.ends (n + 1) in let r : l.room ≡ suc (l.room - 1) = omega arith in let v = rw r at l.invariant.0 in rw (v, turn_initial (l.room - 1) q (down ps l.flags) l.reg l.i (drop l.i t) _ _ c.skip_from-p.ensures _ _ (rw (c.in-At.is, c.if-k-eq3.true) at c.read_declaring-d.ensures), (rw c.part-then-k-eq3.ensures at c.read_initial-s.ensures) (down ps l.flags) (all_up_lem c.args.text.now c.args.starts c.args.ends l.flags n c.requires.1 (omega arith) ∙ sym c.all_declared-none.ensures), c.in-At-s-4.is, c.from_rank.ensures)
 
-pub returns-then-none : goal.returns-then-none
+pub returns-then-undeclared : goal.returns-then-undeclared
 unfolding check
-returns-then-none c = let l = c.loop-room in let t = c.args.text.now in let n = c.args.n in let q = port_at c.args.text.now c.args.starts c.args.ends 0 in let ps = ports_of c.args.text.now c.args.starts c.args.ends (n + 1) in let r : l.room ≡ suc (l.room - 1) = omega arith in let v = rw r at l.invariant.0 in rw (v, turn_table (l.room - 1) q (down ps l.flags) l.reg l.i (drop l.i t) _ _ c.skip_from-p.ensures _ _ (rw (c.in-At.is, word_table _ c.if-k-eq0.false c.if-k-eq1.false c.if-k-eq2.false c.if-k-eq3.false) at c.read_declaring-d.ensures), all_up_lem c.args.text.now c.args.starts c.args.ends l.flags n c.requires.1 (omega arith), ← c.all_declared-none.ensures, c.if-none.true)
+returns-then-undeclared c = let l = c.loop-room in let t = c.args.text.now in let n = c.args.n in let q = port_at c.args.text.now c.args.starts c.args.ends 0 in let ps = ports_of c.args.text.now c.args.starts c.args.ends (n + 1) in let r : l.room ≡ suc (l.room - 1) = omega arith in let v = rw r at l.invariant.0 in rw (v, turn_table (l.room - 1) q (down ps l.flags) l.reg l.i (drop l.i t) _ _ c.skip_from-p.ensures _ _ (rw (c.in-At.is, word_table _ c.if-k-eq0.false c.if-k-eq1.false c.if-k-eq2.false c.if-k-eq3.false) at c.read_declaring-d.ensures), all_up_lem c.args.text.now c.args.starts c.args.ends l.flags n c.requires.1 (omega arith), ← c.all_declared-none.ensures, c.if-undeclared.true)
 
 pub returns-in-loop-room : goal.returns-in-loop-room
 unfolding check
-returns-in-loop-room c = let l = c.loop-room in let t = c.args.text.now in let n = c.args.n in let q = port_at c.args.text.now c.args.starts c.args.ends 0 in let ps = ports_of c.args.text.now c.args.starts c.args.ends (n + 1) in let r : l.room ≡ suc (l.room - 1) = omega arith in let v = rw r at l.invariant.0 in rw (v, turn_table (l.room - 1) q (down ps l.flags) l.reg l.i (drop l.i t) _ _ c.skip_from-p.ensures _ _ (rw (c.in-At.is, word_table _ c.if-k-eq0.false c.if-k-eq1.false c.if-k-eq2.false c.if-k-eq3.false) at c.read_declaring-d.ensures), all_up_lem c.args.text.now c.args.starts c.args.ends l.flags n c.requires.1 (omega arith), ← c.all_declared-none.ensures, c.if-none.false)
+returns-in-loop-room c = let l = c.loop-room in let t = c.args.text.now in let n = c.args.n in let q = port_at c.args.text.now c.args.starts c.args.ends 0 in let ps = ports_of c.args.text.now c.args.starts c.args.ends (n + 1) in let r : l.room ≡ suc (l.room - 1) = omega arith in let v = rw r at l.invariant.0 in rw (v, turn_table (l.room - 1) q (down ps l.flags) l.reg l.i (drop l.i t) _ _ c.skip_from-p.ensures _ _ (rw (c.in-At.is, word_table _ c.if-k-eq0.false c.if-k-eq1.false c.if-k-eq2.false c.if-k-eq3.false) at c.read_declaring-d.ensures), all_up_lem c.args.text.now c.args.starts c.args.ends l.flags n c.requires.1 (omega arith), ← c.all_declared-none.ensures, c.if-undeclared.false)
 
 pub returns : goal.returns
 unfolding check

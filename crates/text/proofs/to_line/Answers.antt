@@ -6,15 +6,15 @@ use Rattle.text.proofs.to_line.Goals as goal
 pub loop-i-init : goal.loop-i-init
 loop-i-init c = (omega arith, omega arith)
 
-pub returns-then-text-i-eq10 : goal.returns-then-text-i-eq10
-returns-then-text-i-eq10 c = let l = c.loop-i in
+pub returns-then-at_lf : goal.returns-then-at_lf
+returns-then-at_lf c = let l = c.loop-i in
     let t = c.args.text.now in
-    omega (arith, l.invariant.0, rw c.if-text-i-eq10.true at (line_cons t l.i c.loop-i-test.true))
+    omega (arith, l.invariant.0, rw c.if-at_lf.true at (line_cons t l.i c.loop-i-test.true))
 
 pub loop-i-preserved : goal.loop-i-preserved
 loop-i-preserved c = let l = c.loop-i in
     let t = c.args.text.now in
-    omega (arith, l.invariant.0, rw (ne_eqb _ _ c.if-text-i-eq10.false) at (line_cons t l.i c.loop-i-test.true))
+    omega (arith, l.invariant.0, rw (ne_eqb _ _ c.if-at_lf.false) at (line_cons t l.i c.loop-i-test.true))
 
 pub returns : goal.returns
 returns c = let l = c.loop-i in omega (arith, l.invariant.0, line_nil c.args.text.now l.i c.loop-i-test.false)
