@@ -2,7 +2,7 @@
 
 // Files as the programs use them: loaded whole into a lent buffer, stored at a place and flushed.
 // No contract can say what a file holds; what is proved is that every count lies within its buffer.
-ghost use Rattle.std.specs.Prelude.{◌<◌, ◌^◌};
+ghost use Rattle.std.specs.Prelude.{◌≡◌, ◌<◌, ◌^◌, IfOk};
 ghost use Rattle.std.specs.Io.{WritesAtMost};
 ghost use Rattle.disk.specs.Loaded.{Within};
 
@@ -42,7 +42,9 @@ fn plain(words: &str) -> &str {
 }
 
 // A path is text for std; bytes that are none name no file.
-pub fn path_text(path: &[u8]) -> io::Result<&str> {
+pub fn path_text(path: &[u8]) -> io::Result<&str>
+    ensures { IfOk result (λ text. text.now ≡ path.now) }
+{
     match std::str::from_utf8(path) {
         Ok(text) => Ok(text),
         Err(_) => Err(Error::from(ErrorKind::InvalidFilename)),

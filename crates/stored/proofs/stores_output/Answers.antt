@@ -12,7 +12,3 @@ returns-in-49 c = rw c.in-49.is
 pub returns-in-120 : goal.returns-in-120
 unfolding stores_output output_of output_byte
 returns-in-120 c = rw c.in-120.is
-
-pub returns-in-45 : goal.returns-in-45
-unfolding stores_output output_of output_byte
-returns-in-45 c = rw c.in-45.is
