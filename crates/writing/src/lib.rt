@@ -98,5 +98,6 @@ pub fn write_row(a: &mut [u8], symbols: [Symbol; base::INPUTS], state: Level, ou
         a[at + k] = last_byte(state, output, k);
         k += 1;
     }
-    a[table::COUNT_AT] += 1;
+    let counted = table::COUNT_AT;
+    a[counted] += 1;
 }

@@ -91,17 +91,17 @@ loop-k-2-preserved c =
     let e : c.loop-k.k + (l.k - c.loop-k.k) ≡ l.k = omega (arith, l.invariant.0) in
     (omega (arith, l.invariant.0), omega arith, patched_next _ _ _ l.k _ _ _ _ l.invariant.0 (omega (arith, l.invariant.0)) (omega (arith, r.rows, r.long, c.wide.ensures, c.loop-k.invariant.1.long)) (rw e c.last_byte.ensures) l.invariant.2)
 
-pub bounds-a-36-2 : goal.bounds-a-36-2
+pub bounds-a-counted : goal.bounds-a-counted
 unfolding row_written
-bounds-a-36-2 c = omega (arith, (room_of _ (sym c.has_room.ensures ∙ not-false _ c.if-not-has_room.false-raw)).long, c.loop-k-2.invariant.2.long, c.loop-k.invariant.1.long)
+bounds-a-counted c = omega (arith, (room_of _ (sym c.has_room.ensures ∙ not-false _ c.if-not-has_room.false-raw)).long, c.loop-k-2.invariant.2.long, c.loop-k.invariant.1.long)
 
 pub overflow_add-a-2 : goal.overflow_add-a-2
 unfolding row_written
 overflow_add-a-2 c = omega (arith, (room_of _ (sym c.has_room.ensures ∙ not-false _ c.if-not-has_room.false-raw)).rows, c.loop-k-2.invariant.2.below count_at (omega arith), c.loop-k.invariant.1.below count_at (omega arith))
 
-pub bounds-a-36-3 : goal.bounds-a-36-3
+pub bounds-a-counted-2 : goal.bounds-a-counted-2
 unfolding row_written
-bounds-a-36-3 c = omega (arith, (room_of _ (sym c.has_room.ensures ∙ not-false _ c.if-not-has_room.false-raw)).long, c.loop-k-2.invariant.2.long, c.loop-k.invariant.1.long)
+bounds-a-counted-2 c = omega (arith, (room_of _ (sym c.has_room.ensures ∙ not-false _ c.if-not-has_room.false-raw)).long, c.loop-k-2.invariant.2.long, c.loop-k.invariant.1.long)
 
 pub shape_of-a : goal.shape_of-a
 unfolding row_written
