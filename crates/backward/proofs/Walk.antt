@@ -15,7 +15,8 @@ use Rattle.book.proofs.Runs.{run_kept}
 use Rattle.backward.specs.Back.{start_before, fetched_before}
 use Rattle.backward.proofs.Way.{starts, fetches}
 
-module _ {base : List Handed} {es : List Event} {f : List ℕ} (v : AllFit base) (l : length (book_of base) ≤ book_limit) (r : Run base es f) (rest : List ℕ) where
+module _ {base : List Handed} {es : List Event} {f : List ℕ} (v : AllFit base) (l : length (book_of base) ≤ book_limit)
+    (r : Run base es f) (rest : List ℕ) where
   abbrev hs : List Handed
   hs = stored base es
 

@@ -1,11 +1,11 @@
 -- The way back meets every entry, from the last to the first. Assumes nothing.
-use mathlib.Core.Path.{◌≡◌, refl, sym, ap, ◌∙◌}
-use mathlib.Core.Logic.{◌≢◌}
+use mathlib.Core.Path.{◌≡◌, refl, ap, ◌∙◌}
 use mathlib.Core.Bool.{Bool, true, false, cond}
 use mathlib.Core.List.{List, ◌∷◌, ◌++◌, append_assoc}
 use Prim.Native.Nat.{ℕ, suc, ◌+◌, ◌-◌, ◌*◌, ◌/◌, ◌≤◌, ◌<◌}
 use native.Mathlib.Omega.{arith}
 use borrow.Author.Tests.{lt-ltb, le-ltb, ne_eqb, eq-eqb, ltb-true}
+use Rattle.std.specs.Prelude.{Ok}
 use lib.Dec.{ltb}
 use lib.ListN.{length, get_or, length-append}
 use lib.Seq.{get_or-append-add}
@@ -14,11 +14,7 @@ use Rattle.files.specs.Files.{LF}
 use Rattle.files.proofs.Parts.{between_mid}
 use Rattle.entry.specs.Entry.{space, digit_of, fields, trailer, entry}
 use Rattle.handed.specs.Handed.{Handed, verdict_of, fits_layout}
-use Rattle.line.specs.declared.Told.{Told}
-use Rattle.line.specs.Told.{told_by, is_entry}
 use Rattle.line.proofs.Round.{entry_is, told_entry}
-use Rattle.book.specs.declared.Fetched.{Fetched}
-use Rattle.book.specs.declared.Fetched.TheVariants.{Entry, Refused}
 use Rattle.book.specs.Book.{entry_at}
 use Rattle.backward.specs.Back.{number_said, pointed, start_before, fetched_before}
 
@@ -29,33 +25,6 @@ start_less f at h = go (ltb (pointed f at) at) refl
     go : (b : Bool) → ltb (pointed f at) at ≡ b → cond b (pointed f at) 0 < at
     go true e = ltb-true (pointed f at) at e
     go false e = h
-
--- the entry that ends at a place, case by case
-module _ (f : List ℕ) (at : ℕ) where
-  pub before_none : at ≡ 0 → Refused 16 0 ≡ fetched_before f at
-  unfolding fetched_before
-  before_none e = rw (eq-eqb at 0 e)
-
-  module _ (some : at ≢ 0) where
-    pub before_past : length f < at → Refused 16 0 ≡ fetched_before f at
-    unfolding fetched_before
-    before_past l = rw (ne_eqb at 0 some, lt-ltb (length f) at l)
-
-    module _ (fits : at ≤ length f) (s : ℕ) (e : s ≡ start_before f at) where
-      pub before_torn : get_or f (at - 1) 0 ≢ LF → Refused 13 s ≡ fetched_before f at
-      unfolding fetched_before
-      before_torn n = rw (ne_eqb at 0 some, le-ltb (length f) at fits, ne_eqb (get_or f (at - 1) 0) LF n, e)
-
-      module _ (ends : get_or f (at - 1) 0 ≡ LF) (b : Bool) (i : b ≡ is_entry s (between s (at - 1) f)) where
-        said_there : (r : Fetched) → cond b (Entry (entry_at s (told_by (between s (at - 1) f)))) (Refused 13 s) ≡ r → r ≡ fetched_before f at
-        unfolding fetched_before
-        said_there r q = sym q ∙ rw (ne_eqb at 0 some, le-ltb (length f) at fits, eq-eqb (get_or f (at - 1) 0) LF ends, i, e)
-
-        pub before_entry : b ≡ true → (t : Told) → t ≡ told_by (between s (at - 1) f) → Entry (entry_at s t) ≡ fetched_before f at
-        before_entry h t q = said_there _ (rw (h, q))
-
-        pub before_other : b ≡ false → Refused 13 s ≡ fetched_before f at
-        before_other h = said_there _ (rw h)
 
 first_figure : (s : ℕ) → s < 100000 → digit_of (s / 10000) - 48 ≡ s / 10000
 first_figure s h = omega arith
@@ -127,8 +96,16 @@ module _ (before after : List ℕ) (h : Handed) (fits : fits_layout h ≡ true) 
   starts = rw (points, lt-ltb s end (omega arith))
 
   -- and the entry is fetched there
-  pub fetches : fetched_before book end ≡ Entry (entry_at s (record { name_length = length h.name; inputs = h.inputs; rows = h.rows; finding = h.finding }))
+  pub fetches : fetched_before book end ≡ Ok (entry_at s (record { name_length = length h.name; inputs = h.inputs; rows = h.rows; finding = h.finding }))
   unfolding fetched_before
   fetches =
       let l : between s (end - 1) book ≡ line = between_mid LF before line (LF ∷ after) (end - 1) (omega arith) in
-      rw (ne_eqb end 0 (λ z. omega arith), le-ltb (length book) end (omega (arith, book_long)), eq-eqb (get_or book (end - 1) 0) LF (tail_byte 6 1 refl (omega arith)), starts, l, entry_is s h fits, told_entry s h fits)
+      rw (
+        ne_eqb end 0 (λ z. omega arith),
+        le-ltb (length book) end (omega (arith, book_long)),
+        eq-eqb (get_or book (end - 1) 0) LF (tail_byte 6 1 refl (omega arith)),
+        starts,
+        l,
+        entry_is s h fits,
+        told_entry s h fits,
+      )

@@ -1,11 +1,12 @@
 -- The way back through a book: each trailer points to the place where its entry starts.
-use Rattle.std.specs.Prelude.{cond, List, ℕ, ◌+◌, ◌-◌, ◌*◌, eqb, ltb, length, get_or}
+use Rattle.std.specs.Prelude.{Result, Ok, Err, cond, List, ℕ, ◌+◌, ◌-◌, ◌*◌, eqb, ltb, length, get_or}
 use Rattle.files.specs.Parts.{between}
 use Rattle.files.specs.Files.{LF}
 use Rattle.line.specs.Told.{told_by, is_entry}
-use Rattle.book.specs.declared.Fetched.{Fetched}
-use Rattle.book.specs.declared.Fetched.TheVariants.{Entry, Refused}
-use Rattle.book.specs.Book.{entry_at}
+use Rattle.refusal.specs.declared.Fault.TheVariants.{Book, NoEntry}
+use Rattle.refusal.specs.declared.Refusal.{Refusal}
+use Rattle.book.specs.declared.Entry.{Entry}
+use Rattle.book.specs.Book.{fault_at, entry_at}
 
 -- the number that five digits say
 abbrev pub number_said : ℕ → ℕ → ℕ → ℕ → ℕ → ℕ
@@ -26,11 +27,13 @@ pointed f at =
 unfoldable pub start_before : List ℕ → ℕ → ℕ
 start_before f at = cond (ltb (pointed f at) at) (pointed f at) 0
 
--- the entry that ends at place `at`: 16 where none can, 13 where what stands there is no entry
-unfoldable pub fetched_before : List ℕ → ℕ → Fetched
+-- the entry that ends at place `at`: refused where none can, and where what stands there is no entry
+unfoldable pub fetched_before : List ℕ → ℕ → Result Entry Refusal
 fetched_before f at =
-    cond (eqb at 0) (Refused 16 0)
-    (cond (ltb (length f) at) (Refused 16 0)
+    cond (eqb at 0) (Err (fault_at NoEntry 0))
+    (cond (ltb (length f) at) (Err (fault_at NoEntry 0))
     (cond (eqb (get_or f (at - 1) 0) LF)
-    (cond (is_entry (start_before f at) (between (start_before f at) (at - 1) f)) (Entry (entry_at (start_before f at) (told_by (between (start_before f at) (at - 1) f)))) (Refused 13 (start_before f at)))
-    (Refused 13 (start_before f at))))
+    (cond (is_entry (start_before f at) (between (start_before f at) (at - 1) f))
+    (Ok (entry_at (start_before f at) (told_by (between (start_before f at) (at - 1) f))))
+    (Err (fault_at Book (start_before f at))))
+    (Err (fault_at Book (start_before f at)))))

@@ -4,15 +4,14 @@
 ghost use Rattle.std.specs.Prelude.{◌≡◌, ◌-◌};
 ghost use Rattle.backward.specs.Back.{number_said, pointed, start_before, fetched_before};
 
-use book::{Entry, Fetched};
+use book::Entry;
+use refusal::{Fault, Refusal};
 
+// What a byte counts for as a digit.
 fn figure(b: u8) -> usize
     ensures { result ≡ b - 48 }
 {
-    if b < 48 {
-        return 0;
-    }
-    base::wide(b - 48)
+    usize::from(b.saturating_sub(b'0'))
 }
 
 // The number that five digits say.
@@ -23,13 +22,12 @@ fn number_of(a: u8, b: u8, c: u8, d: u8, e: u8) -> usize
 }
 
 // Where the trailer that ends before place `at` points.
+// Stays: 0 for a trailer that cannot be there is what `pointed` says, and `start_before` answers for every place.
+#[tactic(auto, unfolding(crate::specs::Back::pointed))]
 fn pointed_to(book: &[u8], at: usize) -> usize
     ensures { result ≡ pointed book.now at }
 {
-    if at < 6 {
-        return 0;
-    }
-    if book.len() < at {
+    if at < 6 || book.len() < at {
         return 0;
     }
     number_of(
@@ -42,6 +40,7 @@ fn pointed_to(book: &[u8], at: usize) -> usize
 }
 
 // Where the entry that ends at place `at` starts; never past `at`.
+#[tactic(auto, unfolding(crate::specs::Back::start_before))]
 pub fn start_before(book: &[u8], at: usize) -> usize
     ensures { result ≡ start_before book.now at }
 {
@@ -50,34 +49,17 @@ pub fn start_before(book: &[u8], at: usize) -> usize
 }
 
 // The entry that ends at place `at`.
-pub fn entry_before(book: &[u8], at: usize) -> Fetched
+#[tactic(auto, using(crate::proofs::Way::start_less), unfolding(crate::specs::Back::fetched_before))]
+pub fn entry_before(book: &[u8], at: usize) -> Result<Entry, Refusal>
     ensures { result ≡ fetched_before book.now at }
 {
-    if at == 0 {
-        return Fetched::Refused(16, 0);
-    }
-    if book.len() < at {
-        return Fetched::Refused(16, 0);
+    if at == 0 || book.len() < at {
+        return Err(Fault::NoEntry.at(0));
     }
     let s = start_before(book, at);
     let no_lf = book[at - 1] != b'\n';
-    if no_lf {
-        return Fetched::Refused(13, s);
+    if no_lf || !line::is_entry(&book[s..at - 1], s) {
+        return Err(Fault::Book.at(s));
     }
-    if s < at {
-        let line = &book[s..at - 1];
-        if line::is_entry(line, s) {
-            let t = line::read_line(line);
-            let f = t.finding;
-            let found = Entry {
-                name_at: s,
-                name_length: t.name_length,
-                inputs: t.inputs,
-                rows: t.rows,
-                finding: f,
-            };
-            return Fetched::Entry(found);
-        }
-    }
-    Fetched::Refused(13, s)
+    Ok(book::entry_in(book, s, at - 1))
 }

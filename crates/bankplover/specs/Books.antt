@@ -1,37 +1,25 @@
 -- What a program outside is told of a book's answers, and the verdict that it hands over as numbers.
-use Rattle.std.specs.Prelude.{ℕ, ◌-◌, Bool, true, false, cond, ◌&&◌, List, eqb, ltb, get_or, set}
+use Rattle.std.specs.Prelude.{Option, None, Some, Result, Ok, Err, ℕ, ◌-◌, Bool, true, false, cond, ◌&&◌, List, eqb, ltb, get_or, set}
 use Prim.Native.Char.{code}
 use Rattle.base.specs.Listed.{listed}
 use Rattle.value.specs.declared.Ternary.{Ternary}
-use Rattle.value.specs.declared.Byte.{Byte}
-use Rattle.value.specs.declared.Byte.TheVariants.{Value, Other}
 use Rattle.value.specs.Value.{byte_of, read_byte}
 use Rattle.table.specs.Area.{or_x}
 use Rattle.verdict.specs.declared.Witness.{Witness}
 use Rattle.verdict.specs.declared.Finding.{Finding}
 use Rattle.verdict.specs.declared.Finding.TheVariants.{Independent, Dependent}
 use Rattle.handed.specs.Handed.{Handed}
-use Rattle.book.specs.declared.Opened.{Opened}
-use Rattle.book.specs.declared.Opened.TheVariants as opening
-use Rattle.book.specs.declared.Appended.{Appended}
-use Rattle.book.specs.declared.Appended.TheVariants as appending
-use Rattle.book.specs.declared.Fetched.{Fetched}
-use Rattle.book.specs.declared.Fetched.TheVariants as fetching
+use Rattle.refusal.specs.declared.Refusal.{Refusal}
+use Rattle.book.specs.declared.Good.{Good}
 use Rattle.book.specs.declared.Entry.{Entry}
 
-unfoldable pub opened_number : Opened → ℕ
-opened_number (opening.Book g) = 0
-opened_number (opening.Refused number place) = number
-
--- the number of entries, or the place
-unfoldable pub opened_told : Opened → ℕ
-opened_told (opening.Book g) = g.entries
-opened_told (opening.Refused number place) = place
+abbrev pub entries_in : Good → ℕ
+entries_in g = g.entries
 
 -- entries, good length and torn bytes; a refusal leaves what was there
-unfoldable pub opened_cells : List ℕ → Opened → List ℕ
-opened_cells l (opening.Book g) = set (set (set l 0 g.entries) 1 g.good) 2 g.torn
-opened_cells l (opening.Refused number place) = l
+unfoldable pub opened_cells : List ℕ → Result Good Refusal → List ℕ
+opened_cells l (Ok g) = set (set (set l 0 g.entries) 1 g.good) 2 g.torn
+opened_cells l (Err r) = l
 
 -- ---- a verdict that is handed over as numbers
 
@@ -39,9 +27,9 @@ opened_cells l (opening.Refused number place) = l
 unfoldable pub small_of : ℕ → ℕ
 small_of k = cond (ltb k 256) k 0
 
-abbrev pub tells : Byte → Bool
-tells (Value v) = true
-tells Other = false
+abbrev pub tells : Option Ternary → Bool
+tells (Some v) = true
+tells None = false
 
 -- number k of a list is the byte of a value; and that value
 unfoldable pub says_value : List ℕ → ℕ → Bool
@@ -75,14 +63,6 @@ finding_from letter l = cond (eqb letter (code "I")) Independent (Dependent (wit
 unfoldable pub handed : List ℕ → ℕ → ℕ → ℕ → List ℕ → Handed
 handed name inputs rows letter l = record { name = name; inputs = cond (says_finding letter l) inputs 0; rows = rows; finding = finding_from letter l }
 
-unfoldable pub appended_number : Appended → ℕ
-appended_number (appending.Stated m) = 0
-appended_number (appending.Refused number place) = number
-
-unfoldable pub appended_told : Appended → ℕ
-appended_told (appending.Stated m) = m
-appended_told (appending.Refused number place) = place
-
 -- ---- a fetched entry as numbers
 
 unfoldable pub letter_of : Finding → ℕ
@@ -111,16 +91,10 @@ entry_number e k =
     (cond (eqb k 4) (letter_of e.finding)
     (witness_number e.finding (k - 5))))))
 
-unfoldable pub fetched_number : Fetched → ℕ
-fetched_number (fetching.Entry e) = 0
-fetched_number (fetching.Refused number place) = number
-
--- the entry's start, or the place
-unfoldable pub fetched_told : Fetched → ℕ
-fetched_told (fetching.Entry e) = e.name_at
-fetched_told (fetching.Refused number place) = place
+abbrev pub name_place : Entry → ℕ
+name_place e = e.name_at
 
 -- a refusal leaves what was there
-unfoldable pub entry_cells : List ℕ → Fetched → List ℕ
-entry_cells l (fetching.Entry e) = listed (entry_number e) 13
-entry_cells l (fetching.Refused number place) = l
+unfoldable pub entry_cells : List ℕ → Result Entry Refusal → List ℕ
+entry_cells l (Ok e) = listed (entry_number e) 13
+entry_cells l (Err r) = l

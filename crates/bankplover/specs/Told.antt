@@ -1,13 +1,13 @@
--- What a program outside is told of an answer: this paper's number of a refusal, or 0; and what was asked for, or the refusal's place.
-use Rattle.std.specs.Prelude.{ℕ}
-use Rattle.value.specs.Value.{byte_of}
-use Rattle.evaluation.specs.declared.Evaluated.{Evaluated}
-use Rattle.evaluation.specs.declared.Evaluated.TheVariants.{Output, Refused}
+-- What a program outside is told of an answer: 0, or the number of the refusal; and what was asked for, or the refusal's place.
+use Rattle.std.specs.Prelude.{ℕ, Result, Ok, Err}
+use Rattle.refusal.specs.declared.Refusal.{Refusal}
+use Rattle.refusal.specs.Refusal.{number_of}
 
-unfoldable pub evaluation_number : Evaluated → ℕ
-evaluation_number (Output v) = 0
-evaluation_number (Refused number place) = number
+abbrev pub number_in : {A : Type 0} → Result A Refusal → ℕ
+number_in (Ok a) = 0
+number_in (Err r) = number_of r.fault
 
-unfoldable pub evaluation_told : Evaluated → ℕ
-evaluation_told (Output v) = byte_of v
-evaluation_told (Refused number place) = place
+-- what was asked for is read off the answer
+abbrev pub told_in : {A : Type 0} → (A → ℕ) → Result A Refusal → ℕ
+told_in f (Ok a) = f a
+told_in f (Err r) = r.place

@@ -3,14 +3,14 @@
 // The exports for programs in C and in Rust: each has the C name, the signature (outside/bankplover.h) and the clauses of
 // the library's function of that name, and calls it.
 ghost use Rattle.std.specs.Prelude.{◌≡◌, length, cond};
-ghost use Rattle.value.specs.Value.{read_byte};
 ghost use Rattle.table.specs.Area.{or_x};
 ghost use Rattle.symbol.specs.Match.{match_level, match_change};
 ghost use Rattle.stored.specs.Stored.{level_of, symbol_of};
 ghost use Rattle.formed.specs.Tests.{well_formed};
 ghost use Rattle.evaluation.specs.Call.{evaluated};
-ghost use Rattle.bankplover.specs.Told.{evaluation_number, evaluation_told};
-ghost use Rattle.bankplover.specs.Books.{opened_number, opened_told, opened_cells, handed, appended_number, appended_told, fetched_number, fetched_told, entry_cells};
+ghost use Rattle.value.specs.Value.{byte_of, read_byte};
+ghost use Rattle.bankplover.specs.Told.{number_in, told_in};
+ghost use Rattle.bankplover.specs.Books.{entries_in, name_place, opened_cells, handed, entry_cells};
 ghost use Rattle.bankplover.specs.Judges.{told, read_told, JudgeTold, square_cells};
 ghost use Rattle.reading.specs.Told.{read_into};
 ghost use Rattle.book.specs.Book.{opened as opened_of, appended, fetched};
@@ -51,8 +51,8 @@ pub extern "C" fn bankplover_evaluate(
     order: &[u8],
     answer: &mut usize,
 ) -> u8
-    ensures value { result ≡ evaluation_number (evaluated area.now prev.now cur.now old order.now) }
-    ensures told { answer.new ≡ evaluation_told (evaluated area.now prev.now cur.now old order.now) }
+    ensures value { result ≡ number_in (evaluated area.now prev.now cur.now old order.now) }
+    ensures told { answer.new ≡ told_in byte_of (evaluated area.now prev.now cur.now old order.now) }
 {
     bankplover::bankplover_evaluate(area, prev, cur, old, order, answer)
 }
@@ -104,8 +104,8 @@ pub extern "C" fn bankplover_open(
     opened: &mut [usize; OPENED],
     answer: &mut usize,
 ) -> u8
-    ensures value { result ≡ opened_number (opened_of book.now stated) }
-    ensures told { answer.new ≡ opened_told (opened_of book.now stated) }
+    ensures value { result ≡ number_in (opened_of book.now stated) }
+    ensures told { answer.new ≡ told_in entries_in (opened_of book.now stated) }
     ensures cells { opened.new ≡ opened_cells opened.old (opened_of book.now stated) }
 {
     bankplover::bankplover_open(book, stated, opened, answer)
@@ -123,9 +123,9 @@ pub extern "C" fn bankplover_append(
     witness: &[usize; WITNESS],
     answer: &mut usize,
 ) -> u8
-    ensures value { result ≡ appended_number (appended book.old stated (handed name.now inputs rows finding witness.now)).answer }
+    ensures value { result ≡ number_in (appended book.old stated (handed name.now inputs rows finding witness.now)).answer }
     ensures bytes { book.new ≡ (appended book.old stated (handed name.now inputs rows finding witness.now)).bytes }
-    ensures told { answer.new ≡ appended_told (appended book.old stated (handed name.now inputs rows finding witness.now)).answer }
+    ensures told { answer.new ≡ told_in (λ n. n) (appended book.old stated (handed name.now inputs rows finding witness.now)).answer }
 {
     bankplover::bankplover_append(book, stated, name, inputs, rows, finding, witness, answer)
 }
@@ -139,9 +139,9 @@ pub extern "C" fn bankplover_fetch(
     entry: &mut [usize; ENTRY],
     answer: &mut usize,
 ) -> u8
-    ensures value { result ≡ fetched_number (fetched book.now stated k) }
+    ensures value { result ≡ number_in (fetched book.now stated k) }
     ensures cells { entry.new ≡ entry_cells entry.old (fetched book.now stated k) }
-    ensures told { answer.new ≡ fetched_told (fetched book.now stated k) }
+    ensures told { answer.new ≡ told_in name_place (fetched book.now stated k) }
 {
     bankplover::bankplover_fetch(book, stated, k, entry, answer)
 }

@@ -1,7 +1,5 @@
 #![tactic(auto)]
 
-ghost use Rattle.std.specs.Prelude.{◌≡◌};
-
 // The limits of document 01; specs/Limits.antt has the same numbers.
 pub const TEXT: usize = 65536;
 
@@ -12,10 +10,3 @@ pub const ROWS: usize = 64;
 pub const NAME: usize = 32;
 
 pub const BOOK: usize = 65536;
-
-// A byte as a number that indexes.
-pub fn wide(x: u8) -> usize
-    ensures { result ≡ x }
-{
-    x as usize
-}

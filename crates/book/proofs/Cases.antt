@@ -2,8 +2,8 @@
 use mathlib.Core.Path.{◌≡◌, refl}
 use mathlib.Core.Bool.{true}
 use mathlib.Core.List.{List, [], ◌∷◌}
-use Prim.Native.Nat.{ℕ, ◌≤◌, max}
-use borrow.Author.Tests.{le-ltb}
+use Prim.Native.Nat.{ℕ, ◌≤◌, min, max}
+use native.Mathlib.Omega.{arith}
 use native.Mathlib.Decide.{ℕ_discrete}
 use lib.ListN.{length}
 use Rattle.base.specs.Search.{every, first_from}
@@ -21,9 +21,9 @@ use Rattle.files.specs.Files.{LF}
 use Rattle.entry.specs.Entry.{entry}
 use Rattle.handed.specs.Handed.{Handed, thirds, witness_fits, finding_fits, fits_layout}
 use Rattle.line.specs.Told.{value_in, number_in, witness_in, told_by, handed_by, is_entry}
-use Rattle.book.specs.declared.Opened.TheVariants as open-book
-use Rattle.book.specs.declared.Appended.TheVariants as append
-use Rattle.book.specs.Book.{opened_file, opened, line_of, refusal, appended_at}
+use Rattle.std.specs.Prelude.{Ok, Err}
+use Rattle.refusal.specs.declared.Fault.TheVariants.{Book, NoRoom}
+use Rattle.book.specs.Book.{fault_at, opened_file, opened, line_of, refusal, appended_at}
 
 keep_witness : Witness
 keep_witness = record { first = 1; second = 2; previous = 1; first_now = V1; second_now = V0; old = V0; first_output = V1; second_output = V0 }
@@ -43,15 +43,15 @@ unfolding par entry meant
 par_line = refl
 
 -- P14: a book with `keep` and 10 torn bytes
-pub P14 : opened (bytes "keep 2 3 D 01 10 0 12 1 21 0 @00000\npar 2 4 I ") 46 ≡ open-book.Book (record { entries = 1; good = 36; torn = 10 })
+pub P14 : opened (bytes "keep 2 3 D 01 10 0 12 1 21 0 @00000\npar 2 4 I ") 46 ≡ Ok (record { entries = 1; good = 36; torn = 10 })
 unfolding opened opened_file is_entry handed_by told_by witness_in number_in value_in read_byte fits_layout finding_fits witness_fits thirds name_fits is_name same_value rank_of value_of byte_of vector_of number_from meant shown entry every first_from after_mark next_mark part_at ℕ_discrete
 P14 = refl
 
-pub empty_book : opened [] 0 ≡ open-book.Book (record { entries = 0; good = 0; torn = 0 })
+pub empty_book : opened [] 0 ≡ Ok (record { entries = 0; good = 0; torn = 0 })
 unfolding opened opened_file
 empty_book = refl
 
-pub lf_alone : opened (LF ∷ []) 1 ≡ open-book.Refused 13 0
+pub lf_alone : opened (LF ∷ []) 1 ≡ Err (fault_at Book 0)
 unfolding opened opened_file is_entry handed_by told_by witness_in number_in value_in read_byte fits_layout name_fits is_name first_from after_mark next_mark part_at
 lf_alone = refl
 
@@ -66,13 +66,17 @@ unfolding keep keep_witness entry meant shown vector_of value_of ℕ_discrete
 keep_long s = refl
 
 module _ (book : List ℕ) (stated : ℕ) (large : 65536 ≤ length book) where
-  pub last_place : (appended_at book stated 65500 keep).answer ≡ append.Stated (max stated 65536)
+  pub last_place : (appended_at book stated 65500 keep).answer ≡ Ok (max stated 65536)
   unfolding appended_at
-  last_place = rw (keep_fits, keep_long 65500, le-ltb (length book) 65536 large)
+  last_place =
+      let most : min (length book) 65536 ≡ 65536 = omega arith in
+      rw (keep_fits, keep_long 65500, most)
 
-  pub one_past : appended_at book stated 65501 keep ≡ refusal book 15 65501
+  pub one_past : appended_at book stated 65501 keep ≡ refusal book (fault_at NoRoom 65501)
   unfolding appended_at
-  one_past = rw (keep_fits, keep_long 65501, le-ltb (length book) 65536 large)
+  one_past =
+      let most : min (length book) 65536 ≡ 65536 = omega arith in
+      rw (keep_fits, keep_long 65501, most)
 
 -- ---- an entry of 93 bytes
 

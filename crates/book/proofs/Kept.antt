@@ -5,7 +5,7 @@ use mathlib.Core.List.{List, [], ◌∷◌, ◌++◌, append_assoc}
 use Prim.Native.Nat.{ℕ, zero, suc, ◌+◌, ◌-◌, ◌≤◌, ◌<◌, max}
 use native.Mathlib.Omega.{arith}
 use borrow.Author.Tests.{le-ltb, ne_eqb, leb-true}
-use lib.Dec.{ltb, leb}
+use lib.Dec.{leb}
 use lib.ListN.{length, get_or, take, drop, length-append}
 use lib.Seq.{take-append_seam, drop-append_seam, take-append-le}
 use Rattle.base.specs.Limits.{book_limit}
@@ -17,15 +17,13 @@ use Rattle.entry.specs.Entry.{entry}
 use Rattle.handed.specs.Handed.{Handed, verdict_of, fits_layout}
 use Rattle.handed.proofs.Fit.{parts_of}
 use Rattle.entry.proofs.Clean.{entry_line}
-use Rattle.line.specs.Told.{told_by}
-use Rattle.line.specs.declared.Told.{Told}
+use Rattle.line.specs.Told.{Told, told_by}
 use Rattle.line.proofs.Round.{told_entry, entry_is, name_of_entry, name_in_entry}
 use Rattle.book.specs.declared.Good.{Good}
-use Rattle.book.specs.declared.Opened.TheVariants as open-book
-use Rattle.book.specs.declared.Appended.TheVariants as append
+use Rattle.std.specs.Prelude.{Ok}
+use Rattle.refusal.specs.declared.Fault.TheVariants.{Layout, NoRoom}
 use Rattle.book.specs.declared.Entry.{Entry}
-use Rattle.book.specs.declared.Fetched.TheVariants as fetch
-use Rattle.book.specs.Book.{limit_of, opened_from, opened_file, opened, Outcome, line_of, written, with_bytes, refusal, appended_at, appended, entry_at, entry_of, fetched}
+use Rattle.book.specs.Book.{fault_at, limit_of, opened_from, opened_file, opened, Outcome, line_of, written, with_bytes, refusal, appended_at, appended, entry_at, entry_of, fetched}
 use Rattle.book.specs.Runs.{lines_from, book_of, AllFit, none_left, one_fits, held_in}
 use Rattle.book.proofs.Appending.{limit_le}
 
@@ -79,7 +77,7 @@ fit_snoc h none_left g = one_fits g none_left
 fit_snoc h (one_fits f fs) g = one_fits f (fit_snoc h fs g)
 
 opened_lines : (s k : ℕ) {hs : List Handed} (t : List ℕ) → AllFit hs →
-    opened_from s k (lines_from s hs) t ≡ open-book.Book (record { entries = k + length hs; good = s + length (join LF (lines_from s hs)); torn = length t })
+    opened_from s k (lines_from s hs) t ≡ Ok (record { entries = k + length hs; good = s + length (join LF (lines_from s hs)); torn = length t })
 opened_lines s k t none_left =
     let a : k + 0 ≡ k = omega arith in
     let b : s + 0 ≡ s = omega arith in
@@ -114,11 +112,7 @@ pub kept_book : (hs : List Handed) → AllFit hs → length (book_of hs) ≤ boo
 kept_book hs f l = record { held = held_lines (lines_from 0 hs); fit = f; short = l }
 
 limit_ge : (book : List ℕ) (n : ℕ) → n ≤ length book → n ≤ book_limit → n ≤ limit_of book
-limit_ge book n a b = go (ltb (length book) book_limit)
-  where
-    go : (t : Bool) → n ≤ cond t (length book) book_limit
-    go true = a
-    go false = b
+limit_ge book n a b = omega arith
 
 module _ (f : List ℕ) (hs : List Handed) (k : Kept f hs) (rest : List ℕ) where
   abbrev buffer : List ℕ
@@ -138,7 +132,7 @@ module _ (f : List ℕ) (hs : List Handed) (k : Kept f hs) (rest : List ℕ) whe
   abbrev pub found : Good
   found = record { entries = length hs; good = length (book_of hs); torn = length f - length (book_of hs) }
 
-  file_opened : opened_file f ≡ open-book.Book found
+  file_opened : opened_file f ≡ Ok found
   unfolding opened_file
   file_opened =
       let t : List ℕ = k.held.tail in
@@ -148,7 +142,7 @@ module _ (f : List ℕ) (hs : List Handed) (k : Kept f hs) (rest : List ℕ) whe
       let y : 0 + length (book_of hs) ≡ length (book_of hs) = omega arith in
       ap (λ (p : List (List ℕ) × List ℕ). opened_from 0 0 p.0 p.1) e ∙ opened_lines 0 0 t k.fit ∙ rw (x, y, n)
 
-  pub kept_opened : opened buffer (length f) ≡ open-book.Book found
+  pub kept_opened : opened buffer (length f) ≡ Ok found
   unfolding opened
   kept_opened =
       rw (le-ltb (limit_of (f ++ rest)) (length f) (limit_ge (f ++ rest) (length f) in_buffer k.short), take-append_seam f rest) file_opened
@@ -199,13 +193,13 @@ module _ (f : List ℕ) (hs : List Handed) (k : Kept f hs) (rest : List ℕ) whe
         ∙ take-append-le (length one.name) b behind (name_in_entry start one)
         ∙ name_of_entry start one fits_one
 
-    pub fetched_is : fetched buffer (length f) (suc i) ≡ fetch.Entry (entry_at start told)
+    pub fetched_is : fetched buffer (length f) (suc i) ≡ Ok (entry_at start told)
     unfolding fetched
     fetched_is =
         let less : suc i - 1 ≡ i = omega arith in
-        rw (kept_opened, ne_eqb (suc i) 0 (λ z. omega arith), le-ltb (length hs) (suc i) (omega arith), less) (ap fetch.Entry entry_found)
+        rw (kept_opened, ne_eqb (suc i) 0 (λ z. omega arith), le-ltb (length hs) (suc i) (omega arith), less) (ap Ok entry_found)
 
-    pub kept_fetched : (e : Entry) × (fetched buffer (length f) (suc i) ≡ fetch.Entry e) × (held_in buffer e ≡ get_or hs i d)
+    pub kept_fetched : (e : Entry) × (fetched buffer (length f) (suc i) ≡ Ok e) × (held_in buffer e ≡ get_or hs i d)
     kept_fetched = (entry_at start told, fetched_is, ap (λ (a : List ℕ). hand a) name_found)
       where
         hand : List ℕ → Handed
@@ -255,12 +249,14 @@ module _ (f : List ℕ) (hs : List Handed) (k : Kept f hs) (rest : List ℕ) whe
       pub stated : m ≡ max (length f) (place + length line)
       pub bytes : (appended buffer (length f) h).bytes ≡ with_bytes buffer place (length line) line
 
-    by_tests : (x y : Bool) (m : ℕ) → (cond x (cond y (written buffer (length f) place line) (refusal buffer 15 place)) (refusal buffer 14 0)).answer ≡ append.Stated m → (x ≡ true) × (y ≡ true) × (max (length f) (place + length line) ≡ m)
+    by_tests : (x y : Bool) (m : ℕ) →
+        (cond x (cond y (written buffer (length f) place line) (refusal buffer (fault_at NoRoom place))) (refusal buffer (fault_at Layout 0))).answer ≡ Ok m →
+        (x ≡ true) × (y ≡ true) × (max (length f) (place + length line) ≡ m)
     by_tests true true m e = (refl, refl, cc)
     by_tests true false m e = absurd (let z : ◌≡◌ {A = ℕ} 0 1 = cc in omega arith)
     by_tests false y m e = absurd (let z : ◌≡◌ {A = ℕ} 0 1 = cc in omega arith)
 
-    pub accepted : (m : ℕ) → (appended buffer (length f) h).answer ≡ append.Stated m → Accepted m
+    pub accepted : (m : ℕ) → (appended buffer (length f) h).answer ≡ Ok m → Accepted m
     unfolding appended_at
     accepted m e =
         let t = by_tests (fits_layout h) (leb (place + length line) (limit_of buffer)) m (sym (ap (λ (o : Outcome). o.answer) at_place) ∙ e) in
@@ -278,7 +274,7 @@ module _ (f : List ℕ) (hs : List Handed) (k : Kept f hs) (rest : List ℕ) whe
     line_length_lem = length-append (entry place (verdict_of h)) (LF ∷ []) ∙ omega arith
 
     -- the file after an append
-    pub kept_whole : (m : ℕ) → (appended buffer (length f) h).answer ≡ append.Stated m → take m (appended buffer (length f) h).bytes ≡ whole f body
+    pub kept_whole : (m : ℕ) → (appended buffer (length f) h).answer ≡ Ok m → take m (appended buffer (length f) h).bytes ≡ whole f body
     kept_whole m e =
         let a : Accepted m = accepted m e in
         let t : take (length f) (f ++ rest) ≡ f = take-append_seam f rest in
@@ -287,7 +283,7 @@ module _ (f : List ℕ) (hs : List Handed) (k : Kept f hs) (rest : List ℕ) whe
         (ap₂ take a.stated a.bytes
         ∙ (rw (g, t) at (after_append (f ++ rest) body (length f) in_buffer (rw g (omega (arith, a.room, (limit_le buffer).0))))))
 
-    pub kept_more : (m : ℕ) → (appended buffer (length f) h).answer ≡ append.Stated m → Kept (whole f body) (hs ++ (h ∷ []))
+    pub kept_more : (m : ℕ) → (appended buffer (length f) h).answer ≡ Ok m → Kept (whole f body) (hs ++ (h ∷ []))
     kept_more m e =
         let a : Accepted m = accepted m e in
         record {
@@ -297,7 +293,7 @@ module _ (f : List ℕ) (hs : List Handed) (k : Kept f hs) (rest : List ℕ) whe
         }
 
     -- a cut before the LF was held leaves the verdicts as they were
-    pub kept_cut : (m : ℕ) (g : List ℕ) → (appended buffer (length f) h).answer ≡ append.Stated m → Cut f body g → Kept g hs
+    pub kept_cut : (m : ℕ) (g : List ℕ) → (appended buffer (length f) h).answer ≡ Ok m → Cut f body g → Kept g hs
     kept_cut m g e c =
         let a : Accepted m = accepted m e in
         record {

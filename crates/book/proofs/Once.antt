@@ -9,55 +9,57 @@ use lib.Dec.{leb}
 use lib.ListN.{length, get_or, take, drop, length-append, length-drop, get_or-append}
 use lib.Seq.{length-take-le, get_or-take, get_or-drop, get_or-append-add}
 use Rattle.handed.specs.Handed.{Handed, fits_layout}
-use Rattle.book.specs.declared.Opened.{Opened}
-use Rattle.book.specs.declared.Opened.TheVariants as open-book
-use Rattle.book.specs.declared.Appended.{Appended}
-use Rattle.book.specs.declared.Appended.TheVariants.{Stated, Refused}
-use Rattle.book.specs.declared.Fetched.{Fetched}
-use Rattle.book.specs.Book.{limit_of, opened, on_opened, Outcome, outcome, with_bytes, line_of, written, refusal, appended_at, appended, fetched}
+use Rattle.std.specs.Prelude.{Result, Ok, Err}
+use Rattle.refusal.specs.declared.Fault.TheVariants.{Layout, NoRoom}
+use Rattle.refusal.specs.declared.Refusal.{Refusal}
+use Rattle.book.specs.declared.Good.{Good}
+use Rattle.book.specs.declared.Entry.{Entry}
+use Rattle.book.specs.Book.{fault_at, limit_of, opened, on_opened, Outcome, outcome, with_bytes, line_of, written, refusal, appended_at, appended, fetched}
 use Rattle.book.proofs.Appending.{limit_le}
 
-pub one_opening : (book : List ℕ) (stated : ℕ) (a b : Opened) → a ≡ opened book stated → b ≡ opened book stated → a ≡ b
+pub one_opening : (book : List ℕ) (stated : ℕ) (a b : Result Good Refusal) → a ≡ opened book stated → b ≡ opened book stated → a ≡ b
 one_opening book stated a b p q = p ∙ sym q
 
-pub one_fetch : (book : List ℕ) (stated k : ℕ) (a b : Fetched) → a ≡ fetched book stated k → b ≡ fetched book stated k → a ≡ b
+pub one_fetch : (book : List ℕ) (stated k : ℕ) (a b : Result Entry Refusal) → a ≡ fetched book stated k → b ≡ fetched book stated k → a ≡ b
 one_fetch book stated k a b p q = p ∙ sym q
 
-pub one_append : (book : List ℕ) (stated : ℕ) (h : Handed) (a b : Appended) (x y : List ℕ) → outcome a x ≡ appended book stated h → outcome b y ≡ appended book stated h → (a ≡ b) × (x ≡ y)
+pub one_append : (book : List ℕ) (stated : ℕ) (h : Handed) (a b : Result ℕ Refusal) (x y : List ℕ) →
+    outcome a x ≡ appended book stated h → outcome b y ≡ appended book stated h → (a ≡ b) × (x ≡ y)
 one_append book stated h a b x y p q = (ap (λ (o : Outcome). o.answer) (p ∙ sym q), ap (λ (o : Outcome). o.bytes) (p ∙ sym q))
 
 -- ---- what an append leaves, whatever the book
 
 -- the bytes are the book's own, or the book with a line at a place where it has room
 pub data Left (book : List ℕ) : Outcome → Type 0 where
-  same_bytes : (n p : ℕ) → Left book (refusal book n p)
-  line_put : (m s : ℕ) (line : List ℕ) → s + length line ≤ length book → Left book (outcome (Stated m) (with_bytes book s (length line) line))
+  same_bytes : (r : Refusal) → Left book (refusal book r)
+  line_put : (m s : ℕ) (line : List ℕ) → s + length line ≤ length book → Left book (outcome (Ok m) (with_bytes book s (length line) line))
 
 module _ (book : List ℕ) (stated : ℕ) (h : Handed) where
-  at_tests : (s : ℕ) (x y : Bool) → leb (s + length (line_of s h)) (limit_of book) ≡ y → Left book (cond x (cond y (written book stated s (line_of s h)) (refusal book 15 s)) (refusal book 14 0))
+  at_tests : (s : ℕ) (x y : Bool) → leb (s + length (line_of s h)) (limit_of book) ≡ y →
+      Left book (cond x (cond y (written book stated s (line_of s h)) (refusal book (fault_at NoRoom s))) (refusal book (fault_at Layout 0)))
   at_tests s true true e = line_put (max stated (s + length (line_of s h))) s (line_of s h) (omega (arith, leb-true (s + length (line_of s h)) (limit_of book) e, (limit_le book).0))
-  at_tests s true false e = same_bytes 15 s
-  at_tests s false y e = same_bytes 14 0
+  at_tests s true false e = same_bytes (fault_at NoRoom s)
+  at_tests s false y e = same_bytes (fault_at Layout 0)
 
   at_left : (s : ℕ) → Left book (appended_at book stated s h)
   unfolding appended_at
   at_left s = at_tests s (fits_layout h) (leb (s + length (line_of s h)) (limit_of book)) refl
 
-  by_opening : (o : Opened) → Left book (on_opened o (λ g. appended_at book stated g.good h) (refusal book))
-  by_opening (open-book.Book g) = at_left g.good
-  by_opening (open-book.Refused n p) = same_bytes n p
+  by_opening : (o : Result Good Refusal) → Left book (on_opened o (λ g. appended_at book stated g.good h) (refusal book))
+  by_opening (Ok g) = at_left g.good
+  by_opening (Err r) = same_bytes r
 
   pub append_leaves : Left book (appended book stated h)
   unfolding appended
   append_leaves = by_opening (opened book stated)
 
-left_refused : {book : List ℕ} {o : Outcome} (n p : ℕ) → Left book o → o.answer ≡ Refused n p → o.bytes ≡ book
-left_refused n p (same_bytes a b) e = refl
-left_refused n p (line_put m s line r) e = absurd (let z : ◌≡◌ {A = ℕ} 0 1 = cc in omega arith)
+left_refused : {book : List ℕ} {o : Outcome} (r : Refusal) → Left book o → o.answer ≡ Err r → o.bytes ≡ book
+left_refused r (same_bytes a) e = refl
+left_refused r (line_put m s line room) e = absurd (let z : ◌≡◌ {A = ℕ} 0 1 = cc in omega arith)
 
 -- a refused append changes no byte
-pub refused_same : (book : List ℕ) (stated : ℕ) (h : Handed) (n p : ℕ) → (appended book stated h).answer ≡ Refused n p → (appended book stated h).bytes ≡ book
-refused_same book stated h n p e = left_refused n p (append_leaves book stated h) e
+pub refused_same : (book : List ℕ) (stated : ℕ) (h : Handed) (r : Refusal) → (appended book stated h).answer ≡ Err r → (appended book stated h).bytes ≡ book
+refused_same book stated h r e = left_refused r (append_leaves book stated h) e
 
 -- a line put at place s changes no other place, and not the length
 module _ (book : List ℕ) (s : ℕ) (line : List ℕ) (room : s + length line ≤ length book) where

@@ -1,10 +1,10 @@
 -- Runs of appends, reopenings and cuts. Each call gets the file as held, its length stated, in a buffer with any further bytes behind it.
-use Rattle.std.specs.Prelude.{◌≡◌, true, List, [], ◌∷◌, ◌++◌, ℕ, suc, ◌+◌, length, take, drop}
+use Rattle.std.specs.Prelude.{◌≡◌, Ok, Err, true, List, [], ◌∷◌, ◌++◌, ℕ, suc, ◌+◌, length, take, drop}
 use Rattle.files.specs.Parts.{join}
 use Rattle.files.specs.Files.{LF, good, Cut}
 use Rattle.entry.specs.Entry.{entry}
 use Rattle.handed.specs.Handed.{Handed, verdict_of, fits_layout}
-use Rattle.book.specs.declared.Appended.TheVariants.{Stated, Refused}
+use Rattle.refusal.specs.declared.Refusal.{Refusal}
 use Rattle.book.specs.declared.Entry.{Entry}
 use Rattle.book.specs.Book.{appended}
 
@@ -34,15 +34,15 @@ pub data Run (base : List Handed) : List Event → List ℕ → Type 0 where
   begin : Run base [] (book_of base)
   -- an append that is not refused leaves as many of the buffer's bytes as it answers
   appends : {es : List Event} {f : List ℕ} (h : Handed) (rest : List ℕ) (m : ℕ) → Run base es f →
-      (appended (f ++ rest) (length f) h).answer ≡ Stated m → Run base (append h ∷ es) (take m (appended (f ++ rest) (length f) h).bytes)
-  refuses : {es : List Event} {f : List ℕ} (h : Handed) (rest : List ℕ) (n p : ℕ) → Run base es f →
-      (appended (f ++ rest) (length f) h).answer ≡ Refused n p → Run base (append_refused h ∷ es) (take (length f) (appended (f ++ rest) (length f) h).bytes)
+      (appended (f ++ rest) (length f) h).answer ≡ Ok m → Run base (append h ∷ es) (take m (appended (f ++ rest) (length f) h).bytes)
+  refuses : {es : List Event} {f : List ℕ} (h : Handed) (rest : List ℕ) (r : Refusal) → Run base es f →
+      (appended (f ++ rest) (length f) h).answer ≡ Err r → Run base (append_refused h ∷ es) (take (length f) (appended (f ++ rest) (length f) h).bytes)
   -- a cut during an append that would not have been refused, before its LF was held
   cuts_before : {es : List Event} {f : List ℕ} (h : Handed) (rest : List ℕ) (m : ℕ) (g : List ℕ) → Run base es f →
-      (appended (f ++ rest) (length f) h).answer ≡ Stated m → Cut f (entry (good f) (verdict_of h)) g → Run base (cut_before h ∷ es) g
+      (appended (f ++ rest) (length f) h).answer ≡ Ok m → Cut f (entry (good f) (verdict_of h)) g → Run base (cut_before h ∷ es) g
   -- after its LF was held, the file is what the whole append leaves
   cuts_after : {es : List Event} {f : List ℕ} (h : Handed) (rest : List ℕ) (m : ℕ) → Run base es f →
-      (appended (f ++ rest) (length f) h).answer ≡ Stated m → Run base (cut_after h ∷ es) (take m (appended (f ++ rest) (length f) h).bytes)
+      (appended (f ++ rest) (length f) h).answer ≡ Ok m → Run base (cut_after h ∷ es) (take m (appended (f ++ rest) (length f) h).bytes)
   -- opening writes nothing
   reopens : {es : List Event} {f : List ℕ} → Run base es f → Run base (reopening ∷ es) f
 

@@ -1,17 +1,19 @@
 #![tactic(auto)]
 
-// The book: opening, append, fetch, and a reader that walks back.
-ghost use Rattle.std.specs.Prelude.{◌≡◌, cond, [], ◌∷◌, ◌++◌, ◌+◌, ◌≤◌, length, get_or, ltb};
+// The book: opening, append and fetch.
+ghost use Rattle.std.specs.Prelude.{◌≡◌, min, [], ◌∷◌, ◌++◌, ◌+◌, ◌≤◌, length, get_or};
 ghost use Rattle.base.specs.Limits.{book_limit};
 ghost use Rattle.base.specs.Listed.{listed};
 ghost use Rattle.files.specs.Parts.{between};
 ghost use Rattle.files.specs.Files.{LF};
 ghost use Rattle.entry.specs.Entry.{entry};
-ghost use Rattle.handed.specs.Handed.{Handed};
+ghost use Rattle.handed.specs.Handed.{handed};
 ghost use Rattle.entry.specs.Draft.{draft};
 ghost use Rattle.line.specs.Told.{told_by};
-ghost use Rattle.book.specs.Book.{opened_file, opened, outcome, with_bytes, appended_at, appended, entry_at, entry_of, fetched};
+ghost use Rattle.book.specs.Book.{limit_of, opened_file, opened, outcome, with_bytes, appended_at, appended, entry_at, entry_of, fetched};
 
+use handed::Verdict;
+use refusal::{Fault, Refusal};
 use verdict::Finding;
 
 #[derive(Clone, Copy)]
@@ -21,19 +23,8 @@ pub struct Good {
     pub torn: usize,
 }
 
-#[derive(Clone, Copy)]
-pub enum Opened {
-    Book(Good),
-    Refused(u8, usize),
-}
-
-#[derive(Clone, Copy)]
-pub enum Appended {
-    Stated(usize),
-    Refused(u8, usize),
-}
-
 // An entry as it lies in the lent book: its name starts at `name_at`.
+// Stays: the C interface hands out an entry's name as a place and a length in the lent book.
 #[derive(Clone, Copy)]
 pub struct Entry {
     pub name_at: usize,
@@ -43,137 +34,108 @@ pub struct Entry {
     pub finding: Finding,
 }
 
-#[derive(Clone, Copy)]
-pub enum Fetched {
-    Entry(Entry),
-    Refused(u8, usize),
-}
-
-fn limit(size: usize) -> usize
-    ensures { result ≡ cond (ltb size book_limit) size book_limit }
+// How much of a buffer can be a book.
+fn limit(book: &[u8]) -> usize
+    ensures { result ≡ limit_of book.now }
 {
-    if size < base::BOOK { size } else { base::BOOK }
+    book.len().min(base::BOOK)
 }
 
 // A file of lines: each must be an entry; what follows the last LF is torn.
-fn open_lines(file: &[u8]) -> Opened
+fn open_lines(file: &[u8]) -> Result<Good, Refusal>
     ensures { result ≡ opened_file file.now }
 {
     let mut start: usize = 0;
     let mut count: usize = 0;
-    let mut end = files::next(file, b'\n', 0);
-    'lines: while end < file.len() {
-        if !line::is_entry(&file[start..end], start) {
-            return Opened::Refused(13, start);
+    for end in 0..file.len() {
+        let ends = file[end] == b'\n';
+        if ends {
+            if !line::is_entry(&file[start..end], start) {
+                return Err(Fault::Book.at(start));
+            }
+            start = end + 1;
+            count += 1;
         }
-        start = end + 1;
-        count += 1;
-        end = files::next(file, b'\n', start);
     }
-    Opened::Book(Good {
+    Ok(Good {
         entries: count,
         good: start,
         torn: file.len() - start,
     })
 }
 
-pub fn open_book(book: &[u8], stated: usize) -> Opened
+// What the first `stated` bytes of a buffer hold.
+// Stays: a caller states how much of the lent buffer is the book, and one that states too much is refused (`opened`, `appended`, `fetched`).
+#[tactic(auto, using(crate::proofs::Appending::limit_le), unfolding(crate::specs::Book::opened))]
+pub fn open_book(book: &[u8], stated: usize) -> Result<Good, Refusal>
     ensures { result ≡ opened book.now stated }
 {
-    let most = limit(book.len());
+    let most = limit(book);
     if most < stated {
-        return Opened::Refused(13, most);
+        return Err(Fault::Book.at(most));
     }
     open_lines(&book[..stated])
 }
 
 // Writes the first `size` bytes of the line at `at`.
-fn write_line(
-    book: &mut [u8],
-    at: usize,
-    size: usize,
-    name: &[u8],
-    inputs: usize,
-    rows: usize,
-    finding: Finding,
-)
+fn write_line(book: &mut [u8], at: usize, size: usize, verdict: Verdict)
     requires { at + size ≤ length book.old }
-    ensures { book.new ≡ with_bytes book.old at size (listed (λ k. get_or (entry at (draft record { name = name.entry.now; inputs = inputs; rows = rows; finding = finding }) ++ (LF ∷ [])) k 0) size) }
+    ensures { book.new ≡ with_bytes book.old at size (listed (λ k. get_or (entry at (draft (handed verdict.entry)) ++ (LF ∷ [])) k 0) size) }
 {
-    let mut k: usize = 0;
-    while k < size {
-        book[at + k] = entry::line_byte(name, inputs, rows, finding, at, k);
-        k += 1;
+    for k in 0..size {
+        book[at + k] = entry::line_byte(verdict, at, k);
     }
 }
 
 // An append at the good length.
+#[tactic(auto, using(crate::proofs::Appending::at_unfit, crate::proofs::Appending::in_limit, crate::proofs::Appending::limit_le))]
 fn append_at(
     book: &mut [u8],
     stated: usize,
     good: usize,
-    name: &[u8],
-    inputs: usize,
-    rows: usize,
-    finding: Finding,
-) -> Appended
-    ensures { outcome result book.new ≡ appended_at book.old stated good record { name = name.entry.now; inputs = inputs; rows = rows; finding = finding } }
+    verdict: Verdict,
+) -> Result<usize, Refusal>
+    ensures { outcome result book.new ≡ appended_at book.old stated good (handed verdict.entry) }
 {
-    let size = entry::line_length(name, inputs, rows, finding);
-    if size == 0 {
-        return Appended::Refused(14, 0);
+    let Some(size) = entry::line_length(verdict) else {
+        return Err(Fault::Layout.at(0));
+    };
+    let most = limit(book);
+    let full = most.saturating_sub(good) < size;
+    if full {
+        return Err(Fault::NoRoom.at(good));
     }
-    let most = limit(book.len());
-    if most < good {
-        return Appended::Refused(15, good);
-    }
-    if most - good < size {
-        return Appended::Refused(15, good);
-    }
-    write_line(book, good, size, name, inputs, rows, finding);
-    if stated < good + size {
-        return Appended::Stated(good + size);
-    }
-    Appended::Stated(stated)
+    write_line(book, good, size, verdict);
+    Ok(stated.max(good + size))
 }
 
+// Writes a verdict's entry at the good length; the answer is the length to state from then on.
 #[tactic(auto, unfolding(crate::specs::Book::appended))]
-pub fn append(
-    book: &mut [u8],
-    stated: usize,
-    name: &[u8],
-    inputs: usize,
-    rows: usize,
-    finding: Finding,
-) -> Appended
-    ensures { outcome result book.new ≡ appended book.old stated record { name = name.entry.now; inputs = inputs; rows = rows; finding = finding } }
+pub fn append(book: &mut [u8], stated: usize, verdict: Verdict) -> Result<usize, Refusal>
+    ensures { outcome result book.new ≡ appended book.old stated (handed verdict.entry) }
 {
-    let o = open_book(book, stated);
-    match o {
-        Opened::Refused(number, place) => Appended::Refused(number, place),
-        Opened::Book(g) => append_at(book, stated, g.good, name, inputs, rows, finding),
-    }
+    let found = open_book(book, stated)?;
+    append_at(book, stated, found.good, verdict)
 }
 
 // The entry whose line stands from `a` to `e`.
-fn entry_in(file: &[u8], a: usize, e: usize) -> Entry
+pub fn entry_in(file: &[u8], a: usize, e: usize) -> Entry
     requires a_le_e { a ≤ e }
     requires e_in_bounds { e ≤ length file.now }
     ensures { result ≡ entry_at a (told_by (between a e file.now)) }
 {
-    let t = line::read_line(&file[a..e]);
-    let f = t.finding;
+    let verdict = line::read_line(&file[a..e]);
     Entry {
         name_at: a,
-        name_length: t.name_length,
-        inputs: t.inputs,
-        rows: t.rows,
-        finding: f,
+        name_length: verdict.name.len(),
+        inputs: verdict.inputs,
+        rows: verdict.rows,
+        finding: verdict.finding,
     }
 }
 
 // Entry k, counted from 0.
-#[tactic(auto, unfolding(crate::specs::Book::entry_of, files::specs::Parts::part_at))]
+#[tactic(auto, using(files::proofs::Parts::part_order), unfolding(crate::specs::Book::entry_of, files::specs::Parts::part_at))]
 fn entry_of(book: &[u8], k: usize) -> Entry
     ensures { result ≡ entry_of book.now k }
 {
@@ -181,22 +143,14 @@ fn entry_of(book: &[u8], k: usize) -> Entry
     entry_in(book, a, files::next(book, b'\n', a))
 }
 
+// Entry k, counted from 1.
 #[tactic(auto, unfolding(crate::specs::Book::fetched))]
-pub fn fetch(book: &[u8], stated: usize, k: usize) -> Fetched
+pub fn fetch(book: &[u8], stated: usize, k: usize) -> Result<Entry, Refusal>
     ensures { result ≡ fetched book.now stated k }
 {
-    let o = open_book(book, stated);
-    match o {
-        Opened::Refused(number, place) => Fetched::Refused(number, place),
-        Opened::Book(g) => {
-            if k == 0 {
-                return Fetched::Refused(16, 0);
-            }
-            if g.entries < k {
-                return Fetched::Refused(16, 0);
-            }
-            let found = entry_of(book, k - 1);
-            Fetched::Entry(found)
-        }
+    let found = open_book(book, stated)?;
+    if k == 0 || found.entries < k {
+        return Err(Fault::NoEntry.at(0));
     }
+    Ok(entry_of(book, k - 1))
 }

@@ -1,5 +1,5 @@
 -- Parts of an area that the encoding fixes.
-use Rattle.std.specs.Prelude.{ℕ, ◌+◌, ◌≤◌, ◌<◌, ◌≡◌, Bool, List, eqb, get_or}
+use Rattle.std.specs.Prelude.{ℕ, ◌+◌, Bool, List, eqb, get_or}
 use Rattle.base.specs.Search.{every}
 use Rattle.table.specs.Places.{row_place}
 use Rattle.table.specs.Area.{area_byte, decode}
@@ -15,9 +15,3 @@ row_as_encoded a i m = every m (λ (k : ℕ). as_encoded a (row_place i k))
 -- m bytes from place p on are zero
 abbrev pub zero_from : List ℕ → ℕ → ℕ → Bool
 zero_from a p m = every m (λ (k : ℕ). eqb (get_or a (p + k) 0) 0)
-
--- r is the lesser of two numbers
-pub record Lesser (x y r : ℕ) : Type 0 where
-  pub left : r ≤ x
-  pub right : r ≤ y
-  pub one : r < x → r ≡ y

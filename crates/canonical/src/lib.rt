@@ -1,46 +1,44 @@
 #![tactic(auto)]
 
-ghost use Rattle.std.specs.Prelude.{◌≡◌, ◌+◌, ◌-◌, ◌*◌, ◌<◌, ◌≤◌, length};
+ghost use Rattle.std.specs.Prelude.{◌≡◌, ◌+◌, ◌-◌, ◌*◌, ◌<◌, ◌≤◌, length, get_or};
 ghost use Rattle.base.specs.Search.{every};
-ghost use Rattle.table.specs.Places.{rows_at, row_size};
+ghost use Rattle.stored.specs.Stored.{stores_symbol};
+ghost use Rattle.table.specs.Places.{rows_at, row_size, row_place};
 ghost use Rattle.table.specs.Area.{decode, canonical};
-ghost use Rattle.canonical.specs.Parts.{as_encoded, row_as_encoded, zero_from, Lesser};
-
-fn lesser(x: usize, y: usize) -> usize
-    ensures { Lesser x y result }
-{
-    if x < y { x } else { y }
-}
+ghost use Rattle.canonical.specs.Parts.{as_encoded, row_as_encoded, zero_from};
 
 // The bytes from one place up to another are zero; past the end they are.
 fn are_zero(a: &[u8], from: usize, to: usize) -> bool
     ensures { result ≡ zero_from a.now from (to - from) }
 {
-    let end = lesser(to, a.len());
-    let mut all = true;
-    let mut p = from;
-    while p < end {
-        all = all & (a[p] == 0);
-        p += 1;
-    }
-    all
+    let end = to.min(a.len());
+    // no early end, so that many bytes are compared at once
+    a[from.min(end)..end]
+        .iter()
+        .fold(true, |all, b| all & (*b == 0))
 }
 
 // The name, what stands behind it, the kind and the starting value are as the encoding has them.
 fn head_stored(a: &[u8]) -> bool
     ensures { result ≡ every rows_at (as_encoded a.now) }
 {
-    let n = base::wide(table::byte_at(a, 0));
-    if n != table::name_length(a) {
-        return false;
-    }
-    if !are_zero(a, table::NAME_AT + n, table::KIND_AT) {
-        return false;
-    }
-    if table::byte_at(a, table::KIND_AT) != table::kind_byte(table::sequential(a)) {
-        return false;
-    }
-    table::byte_at(a, table::START_AT) == table::start(a).to_byte()
+    let size = usize::from(table::byte_at(a, 0));
+    size == table::name_length(a)
+        && are_zero(a, table::NAME_AT + size, table::KIND_AT)
+        && table::byte_at(a, table::KIND_AT) == table::kind_byte(table::sequential(a))
+        && table::byte_at(a, table::START_AT) == table::start(a).to_byte()
+}
+
+// Column k of row i.
+fn column_stored(a: &[u8], i: usize, k: usize) -> bool
+    requires row { i < length (decode a.now).rows }
+    requires place { 2 * k + 1 < row_size }
+    ensures { result ≡ stores_symbol (get_or a.now (row_place i (2 * k)) 0) (get_or a.now (row_place i (2 * k + 1)) 0) }
+{
+    stored::stores_symbol(
+        table::byte_in_row(a, i, 2 * k),
+        table::byte_in_row(a, i, 2 * k + 1),
+    )
 }
 
 // The first n columns of row i.
@@ -48,16 +46,7 @@ fn columns_stored(a: &[u8], i: usize, n: usize) -> bool
     requires { (i < length (decode a.now).rows) × (n ≤ (decode a.now).inputs) × (2 * n ≤ row_size) }
     ensures { result ≡ row_as_encoded a.now i (2 * n) }
 {
-    let at = table::ROWS_AT + i * table::ROW_SIZE;
-    let mut all = true;
-    let mut k: usize = 0;
-    while k < n {
-        let b = table::byte_at(a, at + 2 * k);
-        let c = table::byte_at(a, at + (2 * k + 1));
-        all = all & stored::stores_symbol(b, c);
-        k += 1;
-    }
-    all
+    (0..n).all(|k| column_stored(a, i, k))
 }
 
 // Row i; where there are more columns than a row has room for, they take all of it.
@@ -69,16 +58,11 @@ fn row_stored(a: &[u8], i: usize) -> bool
     if base::INPUTS < n {
         return columns_stored(a, i, table::ROW_SIZE / 2);
     }
-    if !columns_stored(a, i, n) {
-        return false;
-    }
     let at = table::ROWS_AT + i * table::ROW_SIZE;
-    if !are_zero(a, at + 2 * n, at + table::STATE_AT) {
-        return false;
-    }
-    let state = table::byte_at(a, at + table::STATE_AT);
-    let output = table::byte_at(a, at + table::OUTPUT_AT);
-    stored::stores_level(state) & stored::stores_output(output)
+    columns_stored(a, i, n)
+        && are_zero(a, at + 2 * n, at + table::STATE_AT)
+        && stored::stores_level(table::byte_in_row(a, i, table::STATE_AT))
+        && stored::stores_output(table::byte_in_row(a, i, table::OUTPUT_AT))
 }
 
 // The first m rows.
@@ -86,26 +70,15 @@ fn rows_stored(a: &[u8], m: usize) -> bool
     requires { m ≤ length (decode a.now).rows }
     ensures { result ≡ every m (λ i. row_as_encoded a.now i row_size) }
 {
-    let mut i: usize = 0;
-    while i < m {
-        if !row_stored(a, i) {
-            return false;
-        }
-        i += 1;
-    }
-    true
+    (0..m).all(|i| row_stored(a, i))
 }
 
 // Each byte is the one that the encoding of the table has there.
 pub fn is_canonical(a: &[u8]) -> bool
     ensures { result ≡ canonical a.now }
 {
-    if !head_stored(a) {
-        return false;
-    }
-    let m = lesser(base::ROWS, table::rows(a));
-    if !rows_stored(a, m) {
-        return false;
-    }
-    are_zero(a, table::ROWS_AT + m * table::ROW_SIZE, table::AREA)
+    let m = table::rows(a).min(base::ROWS);
+    head_stored(a)
+        && rows_stored(a, m)
+        && are_zero(a, table::ROWS_AT + m * table::ROW_SIZE, table::AREA)
 }

@@ -1,5 +1,5 @@
 -- Document 01, "Checked by hand": the cases P1 to P14, as one table, from the texts.
-use Rattle.std.specs.Prelude.{ℕ, ◌≡◌, List, [], ◌∷◌, length}
+use Rattle.std.specs.Prelude.{ℕ, ◌≡◌, List, [], ◌∷◌, length, Ok}
 use Prim.Native.String.{String}
 use Rattle.value.specs.declared.Ternary.{Ternary}
 use Rattle.value.specs.declared.Ternary.TheVariants.{V0, V1, Vx}
@@ -11,7 +11,6 @@ use Rattle.step.specs.Step.{step_of}
 use Rattle.verdict.specs.declared.Finding.{Finding}
 use Rattle.verdict.specs.declared.Finding.TheVariants.{Independent, Dependent}
 use Rattle.judge.specs.Judge.{RightFinding}
-use Rattle.book.specs.declared.Opened.TheVariants.{Book}
 use Rattle.book.specs.Book.{opened}
 
 abbrev pub keep : String
@@ -44,7 +43,7 @@ pub data Holds : Case → Type 0 where
       eval_order (step_of t) prev cur old order ≡ output → Holds (gives text prev cur old order output)
   found : {text : String} {finding : Finding} (t : Table) → Reads text t → RightFinding t.inputs (step_of t) finding → Holds (finds text finding)
   told : {book : String} {entries good torn : ℕ} →
-      opened (bytes book) (length (bytes book)) ≡ Book (record { entries = entries; good = good; torn = torn }) → Holds (opens book entries good torn)
+      opened (bytes book) (length (bytes book)) ≡ Ok (record { entries = entries; good = good; torn = torn }) → Holds (opens book entries good torn)
 
 infixr 20 ◌and◌
 pub data AllHold : List Case → Type 0 where

@@ -45,12 +45,12 @@ none_in x = go (every 27 (λ (l : ℕ). not (bit x l))) refl
 
 -- one way: the step told by the words r, and then one of the steps that the words q tell for b
 way : (q : List (List ℕ)) (r : List ℕ) (e : ℕ → ℕ) (h : ℕ → ℕ → ℕ → ℕ) (b m l : ℕ) → b < 3 → m < 3 → l < 27 → Told 3 r e → Tell q h → e l < 3 →
-    bit (path_of (r ∷ []) q 0 (b * 3) m) l ≡ eqb (h b (e l) l) m
-way q r e h b m l lb lm lt tr tq le = path_bit (r ∷ []) q 0 (b * 3) m e (h b) l lm lt tr (λ z lz. tq.at b z lb lz) le
+    bit (path_of r q (b * 3) m) l ≡ eqb (h b (e l) l) m
+way q r e h b m l lb lm lt tr tq le = path_bit r q (b * 3) m e (h b) l lm lt tr (λ z lz. tq.at b z lb lz) le
 
 pub differ_by : (p q : List (List ℕ)) (v w a b o : ℕ) (r u : List ℕ) (x y x' y' : ℕ) → a < 3 → b < 3 → o < 3 →
     Moved (get_or p (a * 3 + o) []) w b r → Moved (get_or q (b * 3 + o) []) v a u →
-    x ≡ path_of (r ∷ []) q 0 (b * 3) 1 → y ≡ path_of (u ∷ []) p 0 (a * 3) 1 → x' ≡ path_of (r ∷ []) q 0 (b * 3) 2 → y' ≡ path_of (u ∷ []) p 0 (a * 3) 2 →
+    x ≡ path_of r q (b * 3) 1 → y ≡ path_of u p (a * 3) 1 → x' ≡ path_of r q (b * 3) 2 → y' ≡ path_of u p (a * 3) 2 →
     Differ p q v w a b o (bit_or (bit_xor x y) (bit_xor x' y'))
 unfolding same_in
 differ_by p q v w a b o r u x y x' y' la lb lo mr mu ex ey ex' ey' = record { at = λ f h tf th. none_in _ ∙ every_same _ _ 27 (λ l lt. lane f h tf th l lt) }
@@ -63,8 +63,20 @@ differ_by p q v w a b o r u x y x' y' la lb lo mr mu ex ey ex' ey' = record { at
         let td = mu.told (h b o) (th.at b o lb lo) in
         let le : e l < 3 = tf.low a o (put_by w b l) lo in
         let ld : d l < 3 = th.low b o (put_by v a l) lo in
-        let bits : bit (bit_or (bit_xor x y) (bit_xor x' y')) l ≡ (xor (eqb (h b (e l) l) 1) (eqb (f a (d l) l) 1) || xor (eqb (h b (e l) l) 2) (eqb (f a (d l) l) 2)) =
+        let bits : bit (bit_or (bit_xor x y) (bit_xor x' y')) l
+        ≡ (xor (eqb (h b (e l) l) 1) (eqb (f a (d l) l) 1) || xor (eqb (h b (e l) l) 2) (eqb (f a (d l) l) 2)) =
         bit_or_lem (bit_xor x y) (bit_xor x' y') l
-        ∙ rw (bit_xor_lem x y l, bit_xor_lem x' y' l, ex, ey, ex', ey', way q r e h b 1 l lb (omega arith) lt te th le, way q r e h b 2 l lb (omega arith) lt te th le, way p u d f a 1 l la (omega arith) lt td tf ld, way p u d f a 2 l la (omega arith) lt td tf ld) in
+        ∙ rw (
+          bit_xor_lem x y l,
+          bit_xor_lem x' y' l,
+          ex,
+          ey,
+          ex',
+          ey',
+          way q r e h b 1 l lb (omega arith) lt te th le,
+          way q r e h b 2 l lb (omega arith) lt te th le,
+          way p u d f a 1 l la (omega arith) lt td tf ld,
+          way p u d f a 2 l la (omega arith) lt td tf ld,
+        ) in
         ap not bits
         ∙ same_tests (h b (e l) l) (f a (d l) l) (th.low b (e l) l le) (tf.low a (d l) l ld)

@@ -29,7 +29,8 @@ two_columns s n i c r x y p q en ex ey hp hq = record {
   at = λ l lt. bit_and_lem q p l ∙ rw (hq.at l lt, hp.at l lt, ex, ey, div-one l, en);
 }
 
-pub three_columns : (s : List (List ℕ)) (n i c r x y z p q v : ℕ) → n ≡ 3 → x ≡ cond (eqb (n - 1) i) c 0 → y ≡ cond (eqb (n - 2) i) c 0 → z ≡ cond (eqb 0 i) c 0 →
+pub three_columns : (s : List (List ℕ)) (n i c r x y z p q v : ℕ) → n ≡ 3 → x ≡ cond (eqb (n - 1) i) c 0 → y ≡ cond (eqb (n - 2) i) c 0 →
+    z ≡ cond (eqb 0 i) c 0 →
     ColumnLanes s (n - 1) 1 x r p → ColumnLanes s (n - 2) 3 y r q → ColumnLanes s 0 9 z r v → RowLanes s n i c r (bit_and (bit_and v q) p)
 unfolding row_matches
 three_columns s n i c r x y z p q v en ex ey ez hp hq hv = record {
@@ -50,18 +51,21 @@ module _ (s : List (List ℕ)) (all i c r : ℕ) where
       ∙ rw (below k (v / 3) (omega arith), zero-add (v % 3)) (and_assoc (bit all r) (row_matches s i c r k (v / 3)) (bit (cell_at s k (v % 3)) r)))
 
   -- the row matches in every column but i, and in column i what it is offered
-  pub rest_matches : (k v : ℕ) → i < k → (bit (rest_of s all i k v) r && bit (cell_at s i (c + digit_of v (k - suc i))) r) ≡ (bit all r && row_matches s i c r k v)
+  pub rest_matches : (k v : ℕ) → i < k → (bit (rest_of s all i k v) r && bit (cell_at s i (c + digit_of v (k - suc i))) r)
+      ≡ (bit all r && row_matches s i c r k v)
   unfolding rest_of row_matches digit_of
   rest_matches zero v h = absurd (omega arith)
   rest_matches (suc k) v h = ⊎_elim here (λ (g : suc i < suc k). earlier g (rest_matches k (v / 3) (omega arith))) (eq-or-lt_of_le h)
     where
-      here : suc i ≡ suc k → (bit (rest_of s all i (suc k) v) r && bit (cell_at s i (c + digit_of v (suc k - suc i))) r) ≡ (bit all r && row_matches s i c r (suc k) v)
+      here : suc i ≡ suc k → (bit (rest_of s all i (suc k) v) r && bit (cell_at s i (c + digit_of v (suc k - suc i))) r)
+          ≡ (bit all r && row_matches s i c r (suc k) v)
       here q =
           let w : k ≡ i = omega arith in
           let z : suc k - suc i ≡ 0 = omega arith in
           rw (z, w, eq-eqb i i refl, below i (v / 3) (omega arith)) (and_assoc (bit all r) (row_matches s i c r i (v / 3)) (bit (cell_at s i (c + v % 3)) r))
 
-      earlier : suc i < suc k → (bit (rest_of s all i k (v / 3)) r && bit (cell_at s i (c + digit_of (v / 3) (k - suc i))) r) ≡ (bit all r && row_matches s i c r k (v / 3)) →
+      earlier : suc i < suc k → (bit (rest_of s all i k (v / 3)) r && bit (cell_at s i (c + digit_of (v / 3) (k - suc i))) r)
+          ≡ (bit all r && row_matches s i c r k (v / 3)) →
           (bit (rest_of s all i (suc k) v) r && bit (cell_at s i (c + digit_of v (suc k - suc i))) r) ≡ (bit all r && row_matches s i c r (suc k) v)
       earlier g e =
           let z : suc k - suc i ≡ suc (k - suc i) = omega arith in
@@ -77,14 +81,16 @@ any_column s i j r zero v = refl
 any_column s i j r (suc k) v = rw (any_column s i j r k (v / 3)) (go (eqb k i) (eqb k j))
   where
     go : (p q : Bool) →
-        (row_matches s j 0 r k (v / 3) && bit (cell_at s k (cond p 0 0 + v % 3)) r) ≡ (row_matches s j 0 r k (v / 3) && bit (cell_at s k (cond q 0 0 + v % 3)) r)
+        (row_matches s j 0 r k (v / 3) && bit (cell_at s k (cond p 0 0 + v % 3)) r)
+        ≡ (row_matches s j 0 r k (v / 3) && bit (cell_at s k (cond q 0 0 + v % 3)) r)
     go true true = refl
     go true false = refl
     go false true = refl
     go false false = refl
 
 -- the rows of lane l that are in x
-module _ (s : List (List ℕ)) (all n m i c : ℕ) (g : List ℕ) (li : i < n) (lm : m ≤ row_limit) (few : (r : ℕ) → m ≤ r → bit all r ≡ false) (h : Lanes s n m i c g)
+module _ (s : List (List ℕ)) (all n m i c : ℕ) (g : List ℕ) (li : i < n) (lm : m ≤ row_limit) (few : (r : ℕ) → m ≤ r → bit all r ≡ false)
+    (h : Lanes s n m i c g)
     (l : ℕ) (lt : l < 27) (x : ℕ) where
   abbrev cell : ℕ
   cell = cell_at s i (c + digit_of l (n - suc i))

@@ -3,7 +3,6 @@ use Prim.Native.Nat.{ℕ, zero, suc, ◌+◌, ◌-◌, ◌*◌, ◌/◌, ◌%◌
 use mathlib.Core.Path.{◌≡◌, refl, sym, ap, ◌∙◌}
 use mathlib.Core.Bool.{Bool, true, cond, ◌&&◌}
 use mathlib.Core.List.{List, [], ◌∷◌}
-use mathlib.Core.Logic.{◌≢◌}
 use native.Mathlib.Nat.{mul-one, mul-zero, add-zero}
 use native.Mathlib.Omega.{arith}
 use lib.Bits.{bit_and, bit_or}
@@ -15,30 +14,27 @@ use Rattle.planes.specs.Words.{bit, Told}
 use Rattle.planes.proofs.Bits.{bit_or_lem}
 use Rattle.exchange.proofs.Composed.{picks}
 use Rattle.exchange.proofs.Patterns.{digit_words, same, pattern}
-use Rattle.cube.specs.Lanes.{Weight, one, three, nine, Zeros, put_by, Copied, Moved, ColumnLanes}
+use Rattle.cube.specs.declared.Digit.{Digit}
+use Rattle.cube.specs.declared.Digit.TheVariants.{One, Three, Nine}
+use Rattle.cube.specs.Lanes.{weight_of, Zeros, put_by, Copied, Moved, ColumnLanes}
 use Rattle.cube.proofs.Shifts.{up_and, down_bit, cut_bit}
 
 -- ---- what holds of every weight
 
-pub weight_low : {w : ℕ} → Weight w → (w ≤ 9) × (0 < w)
-weight_low one = (omega arith, omega arith)
-weight_low three = (omega arith, omega arith)
-weight_low nine = (omega arith, omega arith)
+pub weight_low : (g : Digit) (w : ℕ) → w ≡ weight_of g → w ≤ 9
+weight_low One w e = rw e (omega arith)
+weight_low Three w e = rw e (omega arith)
+weight_low Nine w e = rw e (omega arith)
 
-pub times_low : {w : ℕ} → Weight w → (d : ℕ) → d < 3 → w * d < 32
-times_low one d h = omega arith
-times_low three d h = omega arith
-times_low nine d h = omega arith
+pub times_low : (g : Digit) (w d : ℕ) → w ≡ weight_of g → d < 3 → w * d < 32
+times_low One w d e h = rw e (omega arith)
+times_low Three w d e h = rw e (omega arith)
+times_low Nine w d e h = rw e (omega arith)
 
-pub last_weight : {w : ℕ} → Weight w → w ≢ 1 → w ≢ 3 → w ≡ 9
-last_weight one a b = absurd (a refl)
-last_weight three a b = absurd (b refl)
-last_weight nine a b = refl
-
-put_low : {w : ℕ} → Weight w → (d l : ℕ) → d < 3 → l < 27 → put_by w d l < 27
-put_low one d l h k = omega arith
-put_low three d l h k = omega arith
-put_low nine d l h k = omega arith
+put_low : (g : Digit) (d l : ℕ) → d < 3 → l < 27 → put_by (weight_of g) d l < 27
+put_low One d l h k = omega arith
+put_low Three d l h k = omega arith
+put_low Nine d l h k = omega arith
 
 -- ---- the lanes of a digit
 
@@ -78,7 +74,8 @@ module _ (w z : ℕ) (h : Zeros w z) (l : ℕ) (lt : l < 27) where
   third_digit = let e : w * 2 ≡ w + w = omega arith in cut_bit (z * 2 ^ (w + w)) l lt ∙ (rw e at (h.at 2 l (omega arith) lt))
 
 pub column_by : (s : List (List ℕ)) (k w c r z p q v : ℕ) → Zeros w z →
-    p ≡ cond (bit (cell_at s k c) r) z 0 → q ≡ cond (bit (cell_at s k (c + 1)) r) (z * 2 ^ w % 2 ^ 32) 0 → v ≡ cond (bit (cell_at s k (c + 2)) r) (z * 2 ^ (w + w) % 2 ^ 32) 0 →
+    p ≡ cond (bit (cell_at s k c) r) z 0 → q ≡ cond (bit (cell_at s k (c + 1)) r) (z * 2 ^ w % 2 ^ 32) 0 →
+    v ≡ cond (bit (cell_at s k (c + 2)) r) (z * 2 ^ (w + w) % 2 ^ 32) 0 →
     ColumnLanes s k w c r (bit_or p (bit_or q v))
 column_by s k w c r z p q v h ep eq ev = record {
   at = λ l lt.
@@ -101,7 +98,8 @@ module _ (p w d z : ℕ) (h : Zeros w z) (l : ℕ) (lt : l < 27) where
   term k lk = up_and z (p / 2 ^ (w * d)) (w * k) l ∙ rw (h.at k l lk lt)
 
   first_term : bit q l ≡ (eqb (l / w % 3) 0 && from 0)
-  first_term = let t : bit (q * 2 ^ (w * 0)) l ≡ (eqb (l / w % 3) 0 && from 0) = term 0 (omega arith) in ap (λ (x : ℕ). bit x l) (sym (rw (mul-zero w) (mul-one q))) ∙ t
+  first_term = let t : bit (q * 2 ^ (w * 0)) l ≡ (eqb (l / w % 3) 0 && from 0) = term 0 (omega arith) in
+      ap (λ (x : ℕ). bit x l) (sym (rw (mul-zero w) (mul-one q))) ∙ t
 
   second_term : bit (q * 2 ^ w % 2 ^ 32) l ≡ (eqb (l / w % 3) 1 && from 1)
   second_term = cut_bit (q * 2 ^ w) l lt ∙ ap (λ (x : ℕ). bit (q * 2 ^ x) l) (sym (mul-one w)) ∙ term 1 (omega arith)
@@ -118,15 +116,13 @@ module _ (p w d z : ℕ) (h : Zeros w z) (l : ℕ) (lt : l < 27) where
 pub copied_by : (p w d z q : ℕ) → Zeros w z → q ≡ bit_and z (p / 2 ^ (w * d)) → Copied p w d (bit_or q (bit_or (q * 2 ^ w % 2 ^ 32) (q * 2 ^ (w + w) % 2 ^ 32)))
 copied_by p w d z q h e = record { at = λ l lt. rw e (copied_at p w d z h l lt) }
 
-pub moved_by : (p : List ℕ) (w d a b c : ℕ) → Weight w → d < 3 → Copied (get_or p 0 0) w d a → Copied (get_or p 1 0) w d b → Copied (get_or p 2 0) w d c → Moved p w d (a ∷ b ∷ c ∷ [])
-moved_by p w d a b c hw hd ca cb cc' = record { told = λ f t. record { at = λ m l lm lt. go f t m l lm lt } }
+pub moved_by : (p : List ℕ) (h : Digit) (d a b c : ℕ) → d < 3 → Copied (get_or p 0 0) (weight_of h) d a → Copied (get_or p 1 0) (weight_of h) d b →
+    Copied (get_or p 2 0) (weight_of h) d c →
+    Moved p (weight_of h) d (a ∷ b ∷ c ∷ [])
+moved_by p h d a b c hd ca cb cc' = record { told = λ f t. record { at = λ m l lm lt. go f t m l lm lt } }
   where
-    go : (f : ℕ → ℕ) → Told 3 p f → (m l : ℕ) → m < 3 → l < 27 → bit (get_or (a ∷ b ∷ c ∷ []) m 0) l ≡ eqb (f (put_by w d l)) m
-    go f t zero l lm lt = ca.at l lt ∙ t.at 0 (put_by w d l) lm (put_low hw d l hd lt)
-    go f t (suc zero) l lm lt = cb.at l lt ∙ t.at 1 (put_by w d l) lm (put_low hw d l hd lt)
-    go f t (suc (suc zero)) l lm lt = cc'.at l lt ∙ t.at 2 (put_by w d l) lm (put_low hw d l hd lt)
+    go : (f : ℕ → ℕ) → Told 3 p f → (m l : ℕ) → m < 3 → l < 27 → bit (get_or (a ∷ b ∷ c ∷ []) m 0) l ≡ eqb (f (put_by (weight_of h) d l)) m
+    go f t zero l lm lt = ca.at l lt ∙ t.at 0 (put_by (weight_of h) d l) lm (put_low h d l hd lt)
+    go f t (suc zero) l lm lt = cb.at l lt ∙ t.at 1 (put_by (weight_of h) d l) lm (put_low h d l hd lt)
+    go f t (suc (suc zero)) l lm lt = cc'.at l lt ∙ t.at 2 (put_by (weight_of h) d l) lm (put_low h d l hd lt)
     go f t (suc (suc (suc m))) l lm lt = absurd (omega arith)
-
--- the weight of a column
-pub weight_by : (n k r p : ℕ) → n - suc k ≡ p → r ≡ 3 ^ p → Weight r → (r ≡ 3 ^ (n - suc k)) × Weight r
-weight_by n k r p e q h = (rw e q, h)

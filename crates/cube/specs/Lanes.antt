@@ -1,12 +1,15 @@
--- A lane stands for the vector of its number. A column's value there is the digit whose weight is the column's: 1 for the last column, 3 for the one before it, and 9.
+-- A lane stands for the vector of its number. A column's value there is the digit whose weight is the column's:
+-- 1 for the last column, 3 for the one before it, and 9.
 use Rattle.std.specs.Prelude.{ℕ, zero, suc, ◌+◌, ◌-◌, ◌*◌, ◌/◌, ◌%◌, ◌^◌, ◌<◌, ◌≡◌, Bool, true, cond, ◌&&◌, List, eqb, get_or}
 use Rattle.memo.specs.Rows.{cell_at}
+use Rattle.cube.specs.declared.Digit.{Digit}
+use Rattle.cube.specs.declared.Digit.TheVariants.{One, Three, Nine}
 use Rattle.planes.specs.Words.{bit, Told}
 
-pub data Weight : ℕ → Type 0 where
-  one : Weight 1
-  three : Weight 3
-  nine : Weight 9
+abbrev pub weight_of : Digit → ℕ
+weight_of One = 1
+weight_of Three = 3
+weight_of Nine = 9
 
 -- the lanes whose digit of weight w is zero; shifted by d digits they are those whose digit is d
 pub record Zeros (w r : ℕ) : Type 0 where

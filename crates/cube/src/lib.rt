@@ -1,50 +1,89 @@
 #![tactic(auto)]
 
-ghost use Rattle.std.specs.Prelude.{◌≡◌, cond, suc, ◌+◌, ◌-◌, ◌^◌, ◌<◌, ◌≤◌, [], ◌∷◌, eqb, length, get_or};
+ghost use Rattle.std.specs.Prelude.{◌≡◌, cond, suc, ◌+◌, ◌-◌, ◌^◌, ◌<◌, ◌≤◌, [], eqb, get_or};
 ghost use Rattle.std.specs.Int.Bits.{bit_and, bit_or};
 ghost use Rattle.base.specs.Limits.{input_limit, row_limit};
 ghost use Rattle.table.specs.Table.{Table};
-ghost use Rattle.memo.specs.Rows.{all_rows, cell_at};
-ghost use Rattle.planes.specs.Planes.{Low};
-ghost use Rattle.exchange.specs.Lanes.{Given};
+ghost use Rattle.memo.specs.Memo.{MemoOf};
+ghost use Rattle.memo.specs.Rows.{cell_at};
 ghost use Rattle.exchange.specs.Pairs.{Tells};
-ghost use Rattle.exchange.specs.Paths.{path_of};
-ghost use Rattle.cube.specs.Lanes.{Weight, Zeros, Copied, Moved, ColumnLanes, RowLanes, Lanes};
+ghost use Rattle.cube.specs.Lanes.{weight_of, Zeros, Copied, Moved, ColumnLanes, RowLanes, Lanes};
 ghost use Rattle.cube.specs.Steps.{Levels, Stays, Step, Steps, Differ, Same};
 
-// The lanes whose digit of weight w is zero.
-fn zeros(w: usize) -> u32
-    requires { Weight w }
-    ensures { Zeros w result }
-{
-    match w {
-        1 => 0x1249249,
-        3 => 0x1c0e07,
-        _ => 0x1ff,
-    }
+use memo::Memo;
+use plain::PlainRows;
+
+// A digit of a lane's number, by what it weighs.
+#[derive(Clone, Copy)]
+pub enum Digit {
+    One = 1,
+    Three = 3,
+    Nine = 9,
 }
 
-// The weight of column k of n in a vector's number.
-fn weight(n: usize, k: usize) -> usize
-    requires { (n ≤ 3) × (k < n) }
-    ensures { (result ≡ 3 ^ (n - suc k)) × Weight result }
-{
-    match n - k {
-        1 => 1,
-        2 => 3,
-        _ => 9,
+impl Digit {
+    // The digit that is the value of column k, where at most three columns have one.
+    fn of(memo: &Memo, k: usize) -> Digit
+        requires { (memo.now.inputs ≤ 3) × (k < memo.now.inputs) }
+        ensures { weight_of result ≡ 3 ^ (memo.now.inputs - suc k) }
+    {
+        match memo.inputs - k {
+            1 => Digit::One,
+            2 => Digit::Three,
+            _ => Digit::Nine,
+        }
     }
-}
 
-// The lanes in which row r matches in column k, whose digit has weight w: it is offered number c where the digit is 0, the next ones where it is 1 and 2.
-fn lanes_in(s: &[[u64; memo::OFFERS]; memo::COLUMNS], k: usize, w: usize, c: usize, r: usize) -> u32
-    requires { (k ≤ input_limit) × Weight w × (c < 10) × (r < row_limit) }
-    ensures { ColumnLanes s.now k w c r result }
-{
-    let p = zeros(w);
-    planes::lanes_of(s[k][c], r, p)
-        | (planes::lanes_of(s[k][c + 1], r, p << w)
-            | planes::lanes_of(s[k][c + 2], r, p << (w + w)))
+    fn weight(self) -> usize
+        ensures { result ≡ weight_of self }
+    {
+        self as usize
+    }
+
+    // The lanes in which the digit is zero.
+    fn zeros(self) -> u32
+        ensures { Zeros (weight_of self) result }
+    {
+        match self {
+            Digit::One => 0x1249249,
+            Digit::Three => 0x1c0e07,
+            Digit::Nine => 0x1ff,
+        }
+    }
+
+    // The lanes in which row r matches in column k: it is offered number c where the digit is 0, the next ones where it is 1 and 2.
+    pub fn lanes_in(self, memo: &Memo, k: usize, c: usize, r: usize) -> u32
+        requires { (k ≤ input_limit) × (c < 10) × (r < row_limit) }
+        ensures { ColumnLanes memo.now.cells k (weight_of self) c r result }
+    {
+        let w = self.weight();
+        let p = self.zeros();
+        planes::lanes_of(memo.cells[k][c], r, p)
+            | (planes::lanes_of(memo.cells[k][c + 1], r, p << w)
+                | planes::lanes_of(memo.cells[k][c + 2], r, p << (w + w)))
+    }
+
+    // Every lane gets what p has where the digit is d.
+    fn copied(self, p: u32, d: usize) -> u32
+        requires { d < 3 }
+        ensures { Copied p (weight_of self) d result }
+    {
+        let w = self.weight();
+        let q = self.zeros() & (p >> (w * d));
+        q | ((q << w) | (q << (w + w)))
+    }
+
+    // The same for the three words of a step.
+    fn moved(self, step: [u32; 3], d: usize) -> [u32; 3]
+        requires { d < 3 }
+        ensures { Moved step (weight_of self) d result }
+    {
+        [
+            self.copied(step[0], d),
+            self.copied(step[1], d),
+            self.copied(step[2], d),
+        ]
+    }
 }
 
 // What column k is offered where its value is 0, if a change is offered to column i from number c on.
@@ -54,62 +93,44 @@ fn offer(i: usize, c: usize, k: usize) -> usize
     if k == i { c } else { 0 }
 }
 
-fn row_lanes(
-    s: &[[u64; memo::OFFERS]; memo::COLUMNS],
-    n: usize,
-    i: usize,
-    c: usize,
-    r: usize,
-) -> u32
-    requires { (1 < n) × (n ≤ 3) × (c < 10) × (r < row_limit) }
-    ensures { RowLanes s.now n i c r result }
+fn row_lanes(memo: &Memo, i: usize, c: usize, r: usize) -> u32
+    requires { (1 < memo.now.inputs) × (memo.now.inputs ≤ 3) × (c < 10) × (r < row_limit) }
+    ensures { RowLanes memo.now.cells memo.now.inputs i c r result }
 {
-    let a = n - 1;
-    let b = n - 2;
-    let p = lanes_in(s, a, 1, offer(i, c, a), r);
-    let q = lanes_in(s, b, 3, offer(i, c, b), r);
-    if n < 3 {
+    let a = memo.inputs - 1;
+    let b = memo.inputs - 2;
+    let p = Digit::One.lanes_in(memo, a, offer(i, c, a), r);
+    let q = Digit::Three.lanes_in(memo, b, offer(i, c, b), r);
+    if memo.inputs < 3 {
         return q & p;
     }
-    let v = lanes_in(s, 0, 9, offer(i, c, 0), r);
+    let v = Digit::Nine.lanes_in(memo, 0, offer(i, c, 0), r);
     v & q & p
 }
 
 // The lanes of each row.
-fn lanes(
-    s: &[[u64; memo::OFFERS]; memo::COLUMNS],
-    n: usize,
-    m: usize,
-    i: usize,
-    c: usize,
-) -> [u32; base::ROWS]
-    requires { (1 < n) × (n ≤ 3) × (m ≤ row_limit) × (c < 10) }
-    ensures { Lanes s.now n m i c result }
+fn lanes(memo: &Memo, i: usize, c: usize) -> [u32; base::ROWS]
+    requires { (1 < memo.now.inputs) × (memo.now.inputs ≤ 3) × (c < 10) }
+    ensures { Lanes memo.now.cells memo.now.inputs memo.now.rows i c result }
 {
-    let mut g = [0u32; base::ROWS];
-    let mut r: usize = 0;
-    while r < m {
-        g[r] = row_lanes(s, n, i, c, r);
-        r += 1;
+    let mut by_row = [0u32; base::ROWS];
+    for r in 0..memo.rows {
+        by_row[r] = row_lanes(memo, i, c, r);
     }
-    g
+    by_row
 }
 
 // What the level rows answer, for each old output.
-fn levels(
-    outs: &[u8; planes::OUTPUTS],
-    s: &[[u64; memo::OFFERS]; memo::COLUMNS],
-    all: u64,
-    n: usize,
-    m: usize,
-) -> [[u32; 4]; 3]
-    requires { (1 < n) × (n ≤ 3) × (m ≤ row_limit) × Low outs.now }
-    ensures { Levels s.now outs.now all n m result }
+fn levels(memo: &Memo) -> [[u32; 4]; 3]
+    requires { (1 < memo.now.inputs) × (memo.now.inputs ≤ 3) }
+    ensures { Levels memo.now result }
 {
-    let g = lanes(s, n, m, 0, 0);
-    let a = planes::spread(&g, outs, all & s[n][0], 0, [0, 0, 0, planes::LANES]);
-    let b = planes::spread(&g, outs, all & s[n][1], 1, [0, 0, 0, planes::LANES]);
-    let c = planes::spread(&g, outs, all & s[n][2], 2, [0, 0, 0, planes::LANES]);
+    let by_row = lanes(memo, 0, 0);
+    let state = memo.cells[memo.inputs];
+    let open = [0, 0, 0, planes::LANES];
+    let a = planes::spread(&by_row, &memo.outputs, memo.all & state[0], 0, open);
+    let b = planes::spread(&by_row, &memo.outputs, memo.all & state[1], 1, open);
+    let c = planes::spread(&by_row, &memo.outputs, memo.all & state[2], 2, open);
     [a, b, c]
 }
 
@@ -120,155 +141,108 @@ fn stays(p: [u32; 4], o: usize, still: u32) -> [u32; 4]
 {
     let go = still ^ planes::LANES;
     let mut q = [p[0] & go, p[1] & go, p[2] & go, p[3] & go];
-    q[o] = q[o] | still;
+    q[o] |= still;
     q
 }
 
 fn step_at(
-    g: &[u32; base::ROWS],
-    outs: &[u8; planes::OUTPUTS],
-    lev: &[[u32; 4]; 3],
-    s: &[[u64; memo::OFFERS]; memo::COLUMNS],
-    all: u64,
-    n: usize,
+    memo: &Memo,
+    lanes: &[u32; base::ROWS],
+    levels: &[[u32; 4]; 3],
     edges: u64,
     still: u32,
     o: usize,
 ) -> [u32; 3]
-    requires { (n ≤ input_limit) × (o < 3) × Low outs.now }
-    ensures { Step outs.now g.now o (bit_and (bit_and all (cell_at s.now n o)) edges) still (get_or lev.now o []) result }
+    requires { o < 3 }
+    ensures { let set = bit_and (bit_and memo.now.all (cell_at memo.now.cells memo.now.inputs o)) edges in
+        Step memo.now.outputs lanes.now o set still (get_or levels.now o []) result }
 {
-    let set = all & s[n][o] & edges;
-    let p = lev[o];
-    let q = stays(p, o, still);
-    planes::closed(g, outs, set, o, q)
+    let set = memo.all & memo.cells[memo.inputs][o] & edges;
+    planes::closed(lanes, &memo.outputs, set, o, stays(levels[o], o, still))
 }
 
 // The rows that match in column i one of the three changes from number c on.
-fn edges_in(s: &[[u64; memo::OFFERS]; memo::COLUMNS], i: usize, c: usize) -> u64
+fn edges_in(memo: &Memo, i: usize, c: usize) -> u64
     requires { (i ≤ input_limit) × (c < 10) }
-    ensures { result ≡ bit_or (cell_at s.now i c) (bit_or (cell_at s.now i (c + 1)) (cell_at s.now i (c + 2))) }
+    ensures { result ≡ bit_or (cell_at memo.now.cells i c) (bit_or (cell_at memo.now.cells i (c + 1)) (cell_at memo.now.cells i (c + 2))) }
 {
-    s[i][c] | (s[i][c + 1] | s[i][c + 2])
+    let cells = memo.cells[i];
+    cells[c] | (cells[c + 1] | cells[c + 2])
 }
 
-// The steps of column i, for each value that it comes from and each old output.
-fn steps(
-    lev: &[[u32; 4]; 3],
-    outs: &[u8; planes::OUTPUTS],
-    s: &[[u64; memo::OFFERS]; memo::COLUMNS],
-    all: u64,
-    n: usize,
-    m: usize,
-    i: usize,
-) -> [[u32; 3]; 9]
-    requires { (1 < n) × (n ≤ 3) × (m ≤ row_limit) × (i < n) × Low outs.now × Levels s.now outs.now all n m lev.now }
-    ensures { Steps s.now outs.now all n m i result }
-{
-    let mut f = [[0u32; 3]; 9];
-    let w = weight(n, i);
-    let z = zeros(w);
-    let mut a: usize = 0;
-    while a < 3 {
-        let c = 3 + a * 3;
-        let g = lanes(s, n, m, i, c);
-        let edges = edges_in(s, i, c);
-        let still = z << (w * a);
-        let p = step_at(&g, outs, lev, s, all, n, edges, still, 0);
-        f[a * 3] = p;
-        let q = step_at(&g, outs, lev, s, all, n, edges, still, 1);
-        f[a * 3 + 1] = q;
-        let v = step_at(&g, outs, lev, s, all, n, edges, still, 2);
-        f[a * 3 + 2] = v;
-        a += 1;
+// A column: the digit that is its value, and its steps for each value that it comes from and each old output.
+#[derive(Drop)]
+struct Column {
+    digit: Digit,
+    steps: [[u32; 3]; 9],
+}
+
+impl Column {
+    fn of(memo: &Memo, levels: &[[u32; 4]; 3], i: usize) -> Column
+        requires { (1 < memo.now.inputs) × (memo.now.inputs ≤ 3) × (i < memo.now.inputs) × Levels memo.now levels.now }
+        ensures { (weight_of result.digit ≡ 3 ^ (memo.now.inputs - suc i)) × Steps memo.now i result.steps }
+    {
+        let digit = Digit::of(memo, i);
+        Column {
+            digit,
+            steps: steps(memo, levels, i, digit),
+        }
     }
-    f
 }
 
-// Every lane gets what p has where the digit of weight w is d.
-fn copied(p: u32, w: usize, d: usize) -> u32
-    requires { Weight w × (d < 3) }
-    ensures { Copied p w d result }
+// The steps of column i, whose value is the digit.
+fn steps(memo: &Memo, levels: &[[u32; 4]; 3], i: usize, digit: Digit) -> [[u32; 3]; 9]
+    requires { (1 < memo.now.inputs) × (memo.now.inputs ≤ 3) × (i < memo.now.inputs) × Levels memo.now levels.now
+        × (weight_of digit ≡ 3 ^ (memo.now.inputs - suc i)) }
+    ensures { Steps memo.now i result }
 {
-    let q = zeros(w) & (p >> (w * d));
-    q | ((q << w) | (q << (w + w)))
-}
-
-// The same for the three words of step k.
-fn moved(f: &[[u32; 3]; 9], k: usize, w: usize, d: usize) -> [u32; 3]
-    requires { (k < 9) × Weight w × (d < 3) }
-    ensures { Moved (get_or f.now k []) w d result }
-{
-    [
-        copied(f[k][0], w, d),
-        copied(f[k][1], w, d),
-        copied(f[k][2], w, d),
-    ]
-}
-
-// The lanes in which the step p and then the steps from q on give m.
-fn path(p: [u32; 3], h: &[[u32; 3]; 9], q: usize, m: usize) -> u32
-    requires { (q < 7) × (m < 3) }
-    ensures { result ≡ path_of (p ∷ []) h.now 0 q m }
-{
-    (p[0] & h[q][m]) | ((p[1] & h[q + 1][m]) | (p[2] & h[q + 2][m]))
+    let mut steps = [[0u32; 3]; 9];
+    for a in 0..3 {
+        let by_row = lanes(memo, i, 3 + a * 3);
+        let edges = edges_in(memo, i, 3 + a * 3);
+        let still = digit.zeros() << (digit.weight() * a);
+        for o in 0..3 {
+            steps[a * 3 + o] = step_at(memo, &by_row, levels, edges, still, o);
+        }
+    }
+    steps
 }
 
 // The lanes in which the two orders differ, where the first column comes from a, the second from b, and the old output is o.
-fn differ(
-    f: &[[u32; 3]; 9],
-    h: &[[u32; 3]; 9],
-    v: usize,
-    w: usize,
-    a: usize,
-    b: usize,
-    o: usize,
-) -> u32
-    requires { Weight v × Weight w × (a < 3) × (b < 3) × (o < 3) }
-    ensures { Differ f.now h.now v w a b o result }
+fn differ(first: &Column, second: &Column, a: usize, b: usize, o: usize) -> u32
+    requires { (a < 3) × (b < 3) × (o < 3) }
+    ensures { Differ first.now.steps second.now.steps (weight_of first.now.digit) (weight_of second.now.digit) a b o result }
 {
-    let p = moved(f, a * 3 + o, w, b);
-    let q = moved(h, b * 3 + o, v, a);
-    (path(p, h, b * 3, 1) ^ path(q, f, a * 3, 1)) | (path(p, h, b * 3, 2) ^ path(q, f, a * 3, 2))
+    let f = &first.steps;
+    let h = &second.steps;
+    let p = second.digit.moved(f[a * 3 + o], b);
+    let q = first.digit.moved(h[b * 3 + o], a);
+    (exchange::path(p, h, b * 3, 1) ^ exchange::path(q, f, a * 3, 1))
+        | (exchange::path(p, h, b * 3, 2) ^ exchange::path(q, f, a * 3, 2))
 }
 
 // Whether both orders agree in every lane.
-fn all_agree(f: &[[u32; 3]; 9], h: &[[u32; 3]; 9], v: usize, w: usize) -> bool
-    requires { Weight v × Weight w }
-    ensures { Same f.now h.now v w result }
+fn all_agree(first: &Column, second: &Column) -> bool
+    ensures { Same first.now.steps second.now.steps (weight_of first.now.digit) (weight_of second.now.digit) result }
 {
-    let mut k: usize = 0;
-    while k < 27 {
-        if differ(f, h, v, w, k / 9, k / 3 % 3, k % 3) & planes::LANES != 0 {
+    for k in 0..27 {
+        if differ(first, second, k / 9, k / 3 % 3, k % 3) & planes::LANES != 0 {
             return false;
         }
-        k += 1;
     }
     true
 }
 
-// Whether the two orders of columns i and j agree whatever values the others have, for a table of n inputs and m rows.
-pub fn pair_agrees(
-    s: &[[u64; memo::OFFERS]; memo::COLUMNS],
-    outs: &[u8; planes::OUTPUTS],
-    all: u64,
-    n: usize,
-    m: usize,
-    i: usize,
-    j: usize,
-) -> bool
-    requires { (n ≤ 3) × (m ≤ row_limit) × (i < j) × (j < n) × Low outs.now }
-    ensures { (t : Table) → Given t s.now outs.now n i j → all ≡ all_rows t → m ≡ length t.rows → Tells t i j result }
+// Whether the two orders of columns i and j agree whatever values the others have.
+pub fn pair_agrees(memo: &Memo, i: usize, j: usize) -> bool
+    requires { (memo.now.inputs ≤ 3) × (i < j) × (j < memo.now.inputs) }
+    ensures { (t : Table) → MemoOf t memo.now → Tells t i j result }
 {
-    let steady = plain::steady_rows(s, outs, n, m);
-    let edges = plain::edges_of(s, i, j);
-    if plain::only_plain(all, steady, edges) {
+    if PlainRows::of(memo, i, j).has_all(memo.all) {
         return true;
     }
-    let lev = levels(outs, s, all, n, m);
-    let f = steps(&lev, outs, s, all, n, m, i);
-    let h = steps(&lev, outs, s, all, n, m, j);
-    let v = weight(n, i);
-    let w = weight(n, j);
-    all_agree(&f, &h, v, w)
+    let answers = levels(memo);
+    let first = Column::of(memo, &answers, i);
+    let second = Column::of(memo, &answers, j);
+    all_agree(&first, &second)
 }

@@ -1,11 +1,12 @@
 -- Parts of the declarations that have a function of their own.
-use Rattle.std.specs.Prelude.{List, Bool, true, cond, ◌&&◌, ◌||◌, ℕ, eqb}
+use Rattle.std.specs.Prelude.{List, Bool, true, ◌&&◌, ◌||◌, ℕ}
 use Rattle.value.specs.declared.Ternary.{Ternary}
-use Rattle.value.specs.Value.{value_of}
 use Rattle.text.specs.Bytes.{bytes, is, letter}
 use Rattle.text.specs.Words.{same}
 use Rattle.text.specs.Reader.{Reader, ◌>>=◌, ◌>>◌, give, check, byte, name, sign}
 use Rattle.grammar.specs.Header.{Declared, value_said}
+use Rattle.declaration.specs.declared.Declaring.{Declaring}
+use Rattle.declaration.specs.declared.Declaring.TheVariants.{Output, Reg, Input, Initial, Table}
 
 -- `output` and `reg`: the output's name, where it is fresh, and the semicolon
 unfoldable pub declare : List ℕ → Bool → Reader ℕ
@@ -20,10 +21,14 @@ digit = do
   c ← byte (λ c. is c "0" || is c "1" || letter c "x" "X")
   give (value_said c)
 
--- which of the words among the declarations
-abbrev pub declaring_word : ℕ → List ℕ
-declaring_word k = cond (eqb k 0) (bytes "output") (cond (eqb k 1) (bytes "reg") (cond (eqb k 2) (bytes "input") (cond (eqb k 3) (bytes "initial") (bytes "table"))))
+-- the words among the declarations
+abbrev pub declaring_word : Declaring → List ℕ
+declaring_word Output = bytes "output"
+declaring_word Reg = bytes "reg"
+declaring_word Input = bytes "input"
+declaring_word Initial = bytes "initial"
+declaring_word Table = bytes "table"
 
--- a sequential primitive that starts at a value of that rank
-abbrev pub starting_at : ℕ → Declared
-starting_at v = record { sequential = true; start = value_of v }
+-- a sequential primitive that starts at a value
+abbrev pub starting_at : Ternary → Declared
+starting_at v = record { sequential = true; start = v }

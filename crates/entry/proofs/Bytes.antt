@@ -1,9 +1,10 @@
 -- Each byte of a field by its place. Assumes nothing.
-use mathlib.Core.Path.{◌≡◌, refl, sym, ap, ◌∙◌}
-use mathlib.Core.List.{List, [], ◌∷◌, map}
-use Prim.Native.Nat.{ℕ, zero, suc, ◌+◌, ◌≤◌, ◌<◌}
+use mathlib.Core.Path.{◌≡◌, sym, ap, ◌∙◌}
+use mathlib.Core.List.{List, map}
+use Prim.Native.Nat.{ℕ, suc, ◌+◌, ◌≤◌, ◌<◌}
 use native.Mathlib.Omega.{arith}
 use lib.ListN.{length, get_or, length-map, get_or-eq_default}
+use Rattle.std.proofs.lemmas.List.{get_or-map}
 use Rattle.base.specs.Listed.{listed}
 use Rattle.base.proofs.Listed.{listed_length, listed_at}
 use Rattle.value.specs.Value.{byte_of}
@@ -19,11 +20,6 @@ use Rattle.entry.specs.Entry.{digit_of}
 
 -- ---- mapped lists
 
-pub map_at : {A : Type 0} (f : A → ℕ) (l : List A) (k : ℕ) (d : A) → k < length l → get_or (map f l) k 0 ≡ f (get_or l k d)
-map_at f [] k d h = absurd (omega arith)
-map_at f (x ∷ l) zero d h = refl
-map_at f (x ∷ l) (suc k) d h = map_at f l k d (omega arith)
-
 pub map_past : {A : Type 0} (f : A → ℕ) (l : List A) (k : ℕ) → length l ≤ k → get_or (map f l) k 0 ≡ 0
 map_past f l k h = get_or-eq_default (map f l) 0 (omega (arith, length-map l f))
 
@@ -31,7 +27,7 @@ map_past f l k h = get_or-eq_default (map f l) 0 (omega (arith, length-map l f))
 
 pub order_is : (f : ℕ → ℕ) (n k x r : ℕ) → r ≡ digit_of x → k < n → f k ≡ x → r ≡ get_or (map digit_of (listed f n)) k 0
 order_is f n k x r e h g =
-    e ∙ ap digit_of (sym (listed_at f n k 0 h ∙ g)) ∙ sym (map_at digit_of (listed f n) k 0 (omega (arith, listed_length f n)))
+    e ∙ ap digit_of (sym (listed_at f n k 0 h ∙ g)) ∙ sym (get_or-map digit_of (listed f n) k 0 0 (omega (arith, listed_length f n)))
 
 pub order_past : (f : ℕ → ℕ) (n k : ℕ) → n ≤ k → 0 ≡ get_or (map digit_of (listed f n)) k 0
 order_past f n k h = sym (map_past digit_of (listed f n) k (omega (arith, listed_length f n)))
@@ -76,10 +72,10 @@ pub vector_byte_past : (n c k : ℕ) → n ≤ k → 0 ≡ get_or (map byte_of (
 vector_byte_past n c k h = sym (map_past byte_of (vector_of n c) k (omega (arith, length_vector_of n c)))
 
 pub vector_byte_at : (n c k : ℕ) (v : Ternary) (r : ℕ) → k < n → v ≡ get_or (vector_of n c) k V0 → r ≡ byte_of v → r ≡ get_or (map byte_of (vector_of n c)) k 0
-vector_byte_at n c k v r h e g = g ∙ ap byte_of e ∙ sym (map_at byte_of (vector_of n c) k V0 (omega (arith, length_vector_of n c)))
+vector_byte_at n c k v r h e g = g ∙ ap byte_of e ∙ sym (get_or-map byte_of (vector_of n c) k V0 0 (omega (arith, length_vector_of n c)))
 
 pub now_byte_past : (n : ℕ) (w : Witness) (k : ℕ) → n ≤ k → 0 ≡ get_or (map byte_of (now n w)) k 0
 now_byte_past n w k h = sym (map_past byte_of (now n w) k (omega (arith, now_length n w)))
 
 pub now_byte_at : (n : ℕ) (w : Witness) (k : ℕ) (v : Ternary) (r : ℕ) → k < n → v ≡ get_or (now n w) k V0 → r ≡ byte_of v → r ≡ get_or (map byte_of (now n w)) k 0
-now_byte_at n w k v r h e g = g ∙ ap byte_of e ∙ sym (map_at byte_of (now n w) k V0 (omega (arith, now_length n w)))
+now_byte_at n w k v r h e g = g ∙ ap byte_of e ∙ sym (get_or-map byte_of (now n w) k V0 0 (omega (arith, now_length n w)))

@@ -1,17 +1,15 @@
 -- The fields of a line, by number. Assumes nothing.
-use mathlib.Core.Path.{◌≡◌, refl, sym, ap, ◌∙◌}
+use mathlib.Core.Path.{◌≡◌, sym, ap, ◌∙◌}
 use mathlib.Core.Bool.{Bool, true, false, cond}
-use mathlib.Core.Logic.{◌≢◌}
 use mathlib.Core.List.{List, [], ◌∷◌, ◌++◌, map, append_assoc}
-use Prim.Native.Nat.{ℕ, zero, suc, ◌+◌, ◌-◌, ◌*◌, ◌/◌, ◌≤◌, ◌<◌}
+use Prim.Native.Nat.{ℕ, suc, ◌+◌, ◌*◌, ◌/◌, ◌≤◌}
 use native.Mathlib.Omega.{arith}
-use borrow.Author.Tests.{lt-ltb, le-ltb}
-use lib.ListN.{length, get_or, length-append, length-map, get_or-eq_default}
+use lib.ListN.{length, length-append, length-map}
 use lib.Dec.{ltb}
+use Rattle.std.specs.Prelude.{Some}
 use Rattle.base.specs.Listed.{listed}
 use Rattle.base.proofs.Listed.{listed_length}
 use Rattle.verdict.specs.declared.Witness.{Witness}
-use Rattle.verdict.specs.declared.Finding.{Finding}
 use Rattle.verdict.specs.declared.Finding.TheVariants.{Independent, Dependent}
 use Rattle.orders.proofs.Candidates.{length_vector_of}
 use Rattle.verdict.proofs.Meaning.{now_length}
@@ -23,84 +21,18 @@ use Rattle.files.specs.Parts.{join}
 use Rattle.verdict.specs.Verdict as words
 use Prim.Native.Char.{code}
 use Rattle.handed.specs.Handed.{Handed, fits_layout}
-use Rattle.entry.specs.Draft.{order_at, drafted, draft_finding, draft}
+use Rattle.entry.specs.Draft.{order_at, drafted, draft, length_of}
 
--- ---- what stands alone, and two digits
+-- ---- lengths of vectors and orders
 
-pub lone_past : (b k : ℕ) → k ≢ 0 → 0 ≡ get_or (b ∷ []) k 0
-lone_past b zero h = absurd (h refl)
-lone_past b (suc k) h = refl
+pub previous_long : (n : ℕ) (w : Witness) → n ≡ length (map byte_of (before n w))
+previous_long n w = sym (length-map (before n w) byte_of ∙ length_vector_of n w.previous)
 
-pub one_digit : (x k d r : ℕ) → x < 10 → d ≡ digit_of x → r ≡ get_or (d ∷ []) k 0 → r ≡ get_or (decimal x) k 0
-one_digit x k d r h e g = rw (lt-ltb x 10 h) (g ∙ ap (λ (b : ℕ). get_or (b ∷ []) k 0) e)
+pub now_long : (n : ℕ) (w : Witness) → n ≡ length (map byte_of (now n w))
+now_long n w = sym (length-map (now n w) byte_of ∙ now_length n w)
 
-pub second_digit : (x k d r : ℕ) → 10 ≤ x → k ≢ 0 → d ≡ digit_of x → r ≡ get_or (d ∷ []) (k - 1) 0 → r ≡ get_or (decimal x) k 0
-second_digit x zero d r h z e g = absurd (z refl)
-second_digit x (suc k) d r h z e g =
-    let y : suc k - 1 ≡ k = omega arith in
-    rw (le-ltb x 10 h) ((rw y at g) ∙ ap (λ (b : ℕ). get_or (b ∷ []) k 0) e)
-
-pub trailer_past : (s k : ℕ) → 7 ≤ k → 0 ≡ get_or (trailer s ++ (LF ∷ [])) k 0
-trailer_past s k h = sym (get_or-eq_default (trailer s ++ (LF ∷ [])) 0 {n = k} h)
-
--- ---- lengths of a witness's fields
-
-module _ (n : ℕ) (w : Witness) where
-  order_long : (f : ℕ → ℕ) → n ≡ length (map digit_of (listed f n))
-  order_long f = sym (length-map (listed f n) digit_of ∙ listed_length f n)
-
-  pub length_1 : (m : ℕ) → m ≡ 1 → n ≡ length (get_or (witness_fields (drafted n w)) m [])
-  length_1 m e = rw e (sym (length-map (before n w) byte_of ∙ length_vector_of n w.previous))
-
-  pub length_2 : (m : ℕ) → m ≡ 2 → n ≡ length (get_or (witness_fields (drafted n w)) m [])
-  length_2 m e = rw e (sym (length-map (now n w) byte_of ∙ now_length n w))
-
-  pub length_4 : (m : ℕ) → m ≡ 4 → n ≡ length (get_or (witness_fields (drafted n w)) m [])
-  length_4 m e = rw e (order_long (order_at w.first w.second w.first w.second))
-
-  pub length_6 : (m : ℕ) → m ≡ 6 → n ≡ length (get_or (witness_fields (drafted n w)) m [])
-  length_6 m e = rw e (order_long (order_at w.first w.second w.second w.first))
-
--- ---- past the last field
-
-above : {m : ℕ} (k : ℕ) → k ≤ m → m ≢ k → suc k ≤ m
-above k l h = omega arith
-
-first_up : (m : ℕ) → m ≢ 0 → 1 ≤ m
-first_up m h = omega arith
-
-pub seven : (m : ℕ) → m ≢ 0 → m ≢ 1 → m ≢ 2 → m ≢ 3 → m ≢ 4 → m ≢ 5 → m ≢ 6 → 7 ≤ m
-seven m a b c d e f g = above 6 (above 5 (above 4 (above 3 (above 2 (above 1 (first_up m a) b) c) d) e) f) g
-
-pub eight : (m : ℕ) → m ≢ 0 → m ≢ 1 → m ≢ 2 → m ≢ 3 → m ≢ 4 → m ≢ 5 → m ≢ 6 → m ≢ 7 → 8 ≤ m
-eight m a b c d e f g h = above 7 (seven m a b c d e f g) h
-
-pub empty_past : (l : List (List ℕ)) (m : ℕ) → length l ≤ m → 0 ≡ length (get_or l m [])
-empty_past l m h = rw (get_or-eq_default l [] {n = m} h)
-
-pub byte_past : (l : List (List ℕ)) (m k : ℕ) → length l ≤ m → 0 ≡ get_or (get_or l m []) k 0
-byte_past l m k h = rw (get_or-eq_default l [] {n = m} h)
-
--- ---- the fields behind the first three
-
-after_three : (h : Handed) (m : ℕ) → 3 ≤ m → get_or (finding_fields (draft_finding h.inputs h.finding)) (m - 3) [] ≡ get_or (fields (draft h)) m []
-after_three h zero l = absurd (omega arith)
-after_three h (suc zero) l = absurd (omega arith)
-after_three h (suc (suc zero)) l = absurd (omega arith)
-after_three h (suc (suc (suc m))) l =
-    let e : suc (suc (suc m)) - 3 ≡ m = omega arith in
-    rw e
-
-pub length_after : (h : Handed) (m r : ℕ) → 3 ≤ m → r ≡ length (get_or (finding_fields (draft_finding h.inputs h.finding)) (m - 3) []) → r ≡ length (get_or (fields (draft h)) m [])
-length_after h m r l e = e ∙ ap length (after_three h m l)
-
-pub byte_after : (h : Handed) (m k r : ℕ) → 3 ≤ m → r ≡ get_or (get_or (finding_fields (draft_finding h.inputs h.finding)) (m - 3) []) k 0 → r ≡ get_or (get_or (fields (draft h)) m []) k 0
-byte_after h m k r l e = e ∙ ap (λ (f : List ℕ). get_or f k 0) (after_three h m l)
-
--- ---- one byte of a field, the field known
-
-pub lone_is : (l : List (List ℕ)) (b d m k r : ℕ) → r ≡ get_or (d ∷ []) k 0 → d ≡ b → get_or l m [] ≡ b ∷ [] → r ≡ get_or (get_or l m []) k 0
-lone_is l b d m k r e q g = e ∙ ap (λ (x : ℕ). get_or (x ∷ []) k 0) q ∙ ap (λ (x : List ℕ). get_or x k 0) (sym g)
+pub order_long : (n : ℕ) (f : ℕ → ℕ) → n ≡ length (map digit_of (listed f n))
+order_long n f = sym (length-map (listed f n) digit_of ∙ listed_length f n)
 
 -- ---- the length of a line
 
@@ -151,17 +83,15 @@ draft_length n w =
     (listed_length (order_at w.first w.second w.second w.first) n)
 
 -- what a verdict that fits takes
-pub line_short : (h : Handed) (a b : ℕ) → fits_layout h ≡ true → a ≡ length (decimal h.inputs) → b ≡ length (decimal h.rows) → h.finding ≡ Independent →
-    length h.name + a + b + 12 ≡ cond (fits_layout h) (suc (length (entry 0 (draft h)))) 0
-line_short h a b e p q f = rw (e, entry_length 0 (draft h), f, ← p, ← q) (omega arith)
+pub line_short : (h : Handed) (a b : ℕ) →
+    fits_layout h ≡ true → a ≡ length (decimal h.inputs) → b ≡ length (decimal h.rows) → h.finding ≡ Independent →
+    Some (length h.name + a + b + 12) ≡ length_of h
+line_short h a b e p q f = rw (e, entry_length 0 (draft h), f, ← p, ← q) (ap Some (omega arith))
 
-pub line_long : (h : Handed) (w : Witness) (a b : ℕ) → fits_layout h ≡ true → a ≡ length (decimal h.inputs) → b ≡ length (decimal h.rows) → h.finding ≡ Dependent w →
-    length h.name + a + b + 12 + 4 * h.inputs + 10 ≡ cond (fits_layout h) (suc (length (entry 0 (draft h)))) 0
-line_long h w a b e p q f = rw (e, entry_length 0 (draft h), f, draft_length h.inputs w, ← p, ← q) (omega arith)
-
-pub findings_few : (n : ℕ) (f : Finding) → length (finding_fields (draft_finding n f)) ≤ 8
-findings_few n Independent = omega arith
-findings_few n (Dependent w) = omega arith
+pub line_long : (h : Handed) (w : Witness) (a b : ℕ) →
+    fits_layout h ≡ true → a ≡ length (decimal h.inputs) → b ≡ length (decimal h.rows) → h.finding ≡ Dependent w →
+    Some (length h.name + a + b + 12 + 4 * h.inputs + 10) ≡ length_of h
+line_long h w a b e p q f = rw (e, entry_length 0 (draft h), f, draft_length h.inputs w, ← p, ← q) (ap Some (omega arith))
 
 -- the line is its fields, then the trailer with the LF
 pub line_parts : (s : ℕ) (v : words.Verdict) → entry s v ++ (LF ∷ []) ≡ join space (fields v) ++ (trailer s ++ (LF ∷ []))

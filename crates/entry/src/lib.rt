@@ -9,9 +9,10 @@ ghost use Rattle.orders.specs.Vectors.{vector_of};
 ghost use Rattle.verdict.specs.Meaning.{now as current};
 ghost use Rattle.files.specs.Files.{LF};
 ghost use Rattle.entry.specs.Entry.{digit_of, decimal, witness_fields, finding_fields, fields, trailer, entry};
-ghost use Rattle.handed.specs.Handed.{fits_layout};
-ghost use Rattle.entry.specs.Draft.{order_at, drafted, draft_finding, draft};
+ghost use Rattle.handed.specs.Handed.{handed};
+ghost use Rattle.entry.specs.Draft.{order_at, drafted, draft_finding, draft, length_of, said};
 
+use handed::Verdict;
 use value::Ternary;
 use verdict::{Finding, Witness};
 
@@ -20,7 +21,7 @@ use verdict::{Finding, Witness};
 fn digit(k: usize) -> u8
     ensures { result ≡ digit_of k }
 {
-    (48 + k % 10) as u8
+    b'0' + (k % 10) as u8
 }
 
 // Place k of the current vector.
@@ -30,13 +31,11 @@ fn now_at(n: usize, w: Witness, k: usize) -> Ternary
     if n <= k {
         return Ternary::ZERO;
     }
-    if k + 1 == base::wide(w.second) {
-        let v = w.second_now;
-        return v;
+    if k + 1 == usize::from(w.second) {
+        return w.second_now;
     }
-    if k + 1 == base::wide(w.first) {
-        let v = w.first_now;
-        return v;
+    if k + 1 == usize::from(w.first) {
+        return w.first_now;
     }
     handed::value_at(n, w.previous, k)
 }
@@ -67,6 +66,7 @@ fn decimal_byte(x: usize, k: usize) -> u8
     lone(digit(x), k - 1)
 }
 
+#[tactic(auto, using(crate::proofs::Bytes::vector_byte_at, crate::proofs::Bytes::vector_byte_past))]
 fn previous_byte(n: usize, c: usize, k: usize) -> u8
     ensures { result ≡ get_or (map byte_of (vector_of n c)) k 0 }
 {
@@ -76,6 +76,7 @@ fn previous_byte(n: usize, c: usize, k: usize) -> u8
     handed::value_at(n, c, k).to_byte()
 }
 
+#[tactic(auto, using(crate::proofs::Bytes::now_byte_at, crate::proofs::Bytes::now_byte_past))]
 fn now_byte(n: usize, w: Witness, k: usize) -> u8
     ensures { result ≡ get_or (map byte_of (current n w)) k 0 }
 {
@@ -85,118 +86,130 @@ fn now_byte(n: usize, w: Witness, k: usize) -> u8
     now_at(n, w, k).to_byte()
 }
 
-fn order_byte(n: usize, lo: usize, hi: usize, a: usize, b: usize, k: usize) -> u8
-    ensures { result ≡ get_or (map digit_of (listed (order_at lo hi a b) n)) k 0 }
+// Place k of the order of a, b and the others rising, where a and b are the inputs of the witness.
+#[tactic(auto, using(crate::proofs::Bytes::order_is, crate::proofs::Bytes::order_past), unfolding(crate::specs::Draft::order_at))]
+fn order_byte(n: usize, w: Witness, a: u8, b: u8, k: usize) -> u8
+    ensures { result ≡ get_or (map digit_of (listed (order_at w.first w.second a b) n)) k 0 }
 {
+    let lower = usize::from(w.first);
+    let upper = usize::from(w.second);
     if n <= k {
         return 0;
     }
     if k == 0 {
-        return digit(a);
+        return digit(usize::from(a));
     }
     if k == 1 {
-        return digit(b);
+        return digit(usize::from(b));
     }
-    if k - 1 < lo {
-        if k - 1 < hi {
+    if k - 1 < lower {
+        if k - 1 < upper {
             return digit(k - 1);
         }
         return digit(k);
     }
-    if k < hi {
+    if k < upper {
         return digit(k);
     }
     digit(k + 1)
 }
 
-// ---- fields by number
+// ---- fields
 
-fn witness_length(n: usize, w: Witness, m: usize) -> usize
-    ensures { result ≡ length (get_or (witness_fields (drafted n w)) m []) }
-{
-    match m {
-        0 => 1,
-        1 => n,
-        2 => n,
-        3 => 1,
-        4 => n,
-        5 => 1,
-        6 => n,
-        7 => 1,
-        _ => 0,
+// One field of a line; a vector and an order have as many places as the verdict has inputs.
+#[derive(Clone, Copy)]
+enum Field<'a> {
+    Name(&'a [u8]),
+    Decimal(usize),
+    Lone(u8),
+    Previous(usize, Witness),
+    Now(usize, Witness),
+    FirstOrder(usize, Witness),
+    SecondOrder(usize, Witness),
+    Nothing,
+}
+
+impl Field<'_> {
+    #[tactic(auto, using(crate::proofs::Fields::previous_long, crate::proofs::Fields::now_long, crate::proofs::Fields::order_long))]
+    fn length(self) -> usize
+        ensures { result ≡ length (said self.entry) }
+    {
+        match self {
+            Field::Name(name) => name.len(),
+            Field::Decimal(x) => decimal_length(x),
+            Field::Lone(_) => 1,
+            Field::Previous(n, _) => n,
+            Field::Now(n, _) => n,
+            Field::FirstOrder(n, _) => n,
+            Field::SecondOrder(n, _) => n,
+            Field::Nothing => 0,
+        }
+    }
+
+    fn byte(self, k: usize) -> u8
+        ensures { result ≡ get_or (said self.entry) k 0 }
+    {
+        match self {
+            Field::Name(name) => if k < name.len() { name[k] } else { 0 },
+            Field::Decimal(x) => decimal_byte(x, k),
+            Field::Lone(b) => lone(b, k),
+            Field::Previous(n, w) => previous_byte(n, w.previous, k),
+            Field::Now(n, w) => now_byte(n, w, k),
+            Field::FirstOrder(n, w) => order_byte(n, w, w.first, w.second, k),
+            Field::SecondOrder(n, w) => order_byte(n, w, w.second, w.first, k),
+            Field::Nothing => 0,
+        }
     }
 }
 
-fn witness_byte(n: usize, w: Witness, m: usize, k: usize) -> u8
-    ensures { result ≡ get_or (get_or (witness_fields (drafted n w)) m []) k 0 }
+// Stays: the number is a place of the layout, and the definition numbers the fields.
+fn witness_field<'a>(n: usize, w: Witness, m: usize) -> Field<'a>
+    ensures { said result ≡ get_or (witness_fields (drafted n w)) m [] }
 {
-    let i = base::wide(w.first);
-    let j = base::wide(w.second);
-    let old = w.old;
-    let out1 = w.first_output;
-    let out2 = w.second_output;
     match m {
-        0 => lone(b'D', k),
-        1 => previous_byte(n, w.previous, k),
-        2 => now_byte(n, w, k),
-        3 => lone(old.to_byte(), k),
-        4 => order_byte(n, i, j, i, j, k),
-        5 => lone(out1.to_byte(), k),
-        6 => order_byte(n, i, j, j, i, k),
-        7 => lone(out2.to_byte(), k),
-        _ => 0,
+        0 => Field::Lone(b'D'),
+        1 => Field::Previous(n, w),
+        2 => Field::Now(n, w),
+        3 => Field::Lone(w.old.to_byte()),
+        4 => Field::FirstOrder(n, w),
+        5 => Field::Lone(w.first_output.to_byte()),
+        6 => Field::SecondOrder(n, w),
+        7 => Field::Lone(w.second_output.to_byte()),
+        _ => Field::Nothing,
     }
 }
 
-fn finding_length(n: usize, finding: Finding, m: usize) -> usize
-    ensures { result ≡ length (get_or (finding_fields (draft_finding n finding)) m []) }
+fn finding_field<'a>(n: usize, finding: Finding, m: usize) -> Field<'a>
+    ensures { said result ≡ get_or (finding_fields (draft_finding n finding)) m [] }
 {
     match finding {
-        Finding::Independent => if m == 0 { 1 } else { 0 },
-        Finding::Dependent(w) => witness_length(n, w, m),
+        Finding::Independent if m == 0 => Field::Lone(b'I'),
+        Finding::Independent => Field::Nothing,
+        Finding::Dependent(w) => witness_field(n, w, m),
     }
 }
 
-fn finding_byte(n: usize, finding: Finding, m: usize, k: usize) -> u8
-    ensures { result ≡ get_or (get_or (finding_fields (draft_finding n finding)) m []) k 0 }
-{
-    match finding {
-        Finding::Independent => if m == 0 { lone(b'I', k) } else { 0 },
-        Finding::Dependent(w) => witness_byte(n, w, m, k),
-    }
-}
-
-fn finding_count(n: usize, finding: Finding) -> usize
-    ensures { result ≡ length (finding_fields (draft_finding n finding)) }
-{
-    match finding {
-        Finding::Independent => 1,
-        Finding::Dependent(w) => 8,
-    }
-}
-
-fn field_length(name: &[u8], inputs: usize, rows: usize, finding: Finding, m: usize) -> usize
-    ensures { result ≡ length (get_or (fields (draft record { name = name.now; inputs = inputs; rows = rows; finding = finding })) m []) }
+fn field_at<'a>(verdict: Verdict<'a>, m: usize) -> Field<'a>
+    ensures { said result ≡ get_or (fields (draft (handed verdict.entry))) m [] }
 {
     match m {
-        0 => name.len(),
-        1 => decimal_length(inputs),
-        2 => decimal_length(rows),
-        _ => finding_length(inputs, finding, m - 3),
+        0 => Field::Name(verdict.name),
+        1 => Field::Decimal(verdict.inputs),
+        2 => Field::Decimal(verdict.rows),
+        _ => finding_field(verdict.inputs, verdict.finding, m - 3),
     }
 }
 
-fn field_byte(name: &[u8], inputs: usize, rows: usize, finding: Finding, m: usize, k: usize) -> u8
-    ensures { result ≡ get_or (get_or (fields (draft record { name = name.now; inputs = inputs; rows = rows; finding = finding })) m []) k 0 }
+fn field_count(verdict: Verdict) -> usize
+    ensures { result ≡ length (fields (draft (handed verdict.entry))) }
 {
-    match m {
-        0 => if k < name.len() { name[k] } else { 0 },
-        1 => decimal_byte(inputs, k),
-        2 => decimal_byte(rows, k),
-        _ => finding_byte(inputs, finding, m - 3, k),
+    match verdict.finding {
+        Finding::Independent => 4,
+        Finding::Dependent(_) => 11,
     }
 }
 
+// Stays: the number is a place of the layout; a list of the bytes would be looked up by it in the same way.
 fn trailer_byte(s: usize, k: usize) -> u8
     ensures { result ≡ get_or (trailer s ++ (LF ∷ [])) k 0 }
 {
@@ -215,44 +228,37 @@ fn trailer_byte(s: usize, k: usize) -> u8
 // ---- the line
 
 // Byte k of the line that starts at place s, its LF with it.
-pub fn line_byte(
-    name: &[u8],
-    inputs: usize,
-    rows: usize,
-    finding: Finding,
-    s: usize,
-    k: usize,
-) -> u8
-    ensures { result ≡ get_or (entry s (draft record { name = name.now; inputs = inputs; rows = rows; finding = finding }) ++ (LF ∷ [])) k 0 }
+pub fn line_byte(verdict: Verdict, s: usize, k: usize) -> u8
+    ensures { result ≡ get_or (entry s (draft (handed verdict.entry)) ++ (LF ∷ [])) k 0 }
 {
-    let count = 3 + finding_count(inputs, finding);
-    let mut m: usize = 0;
     let mut i = k;
-    while m < count {
-        let l = field_length(name, inputs, rows, finding, m);
-        if i < l {
-            return field_byte(name, inputs, rows, finding, m, i);
+    for m in 0..field_count(verdict) {
+        let field = field_at(verdict, m);
+        let length = field.length();
+        if i < length {
+            return field.byte(i);
         }
-        if i == l {
+        if i == length {
             return b' ';
         }
-        i = i - l - 1;
-        m += 1;
+        i = i - length - 1;
     }
     trailer_byte(s, i)
 }
 
-// The length of a fitting verdict's line, its LF with it; 0 where the verdict does not fit.
-pub fn line_length(name: &[u8], inputs: usize, rows: usize, finding: Finding) -> usize
-    ensures { result ≡ cond (fits_layout record { name = name.now; inputs = inputs; rows = rows; finding = finding })
-        (suc (length (entry 0 (draft record { name = name.now; inputs = inputs; rows = rows; finding = finding })))) 0 }
+// The length of a verdict's line, its LF with it, where the verdict fits.
+pub fn line_length(verdict: Verdict) -> Option<usize>
+    ensures { result ≡ length_of (handed verdict.entry) }
 {
-    if !handed::fits(name, inputs, rows, finding) {
-        return 0;
+    if !verdict.fits() {
+        return None;
     }
-    let short = name.len() + decimal_length(inputs) + decimal_length(rows) + 12;
-    match finding {
-        Finding::Independent => short,
-        Finding::Dependent(w) => short + 4 * inputs + 10,
+    let short = verdict.name.len()
+        + decimal_length(verdict.inputs)
+        + decimal_length(verdict.rows)
+        + 12;
+    match verdict.finding {
+        Finding::Independent => Some(short),
+        Finding::Dependent(_) => Some(short + 4 * verdict.inputs + 10),
     }
 }

@@ -1,6 +1,6 @@
 -- What the bytes of a call say. Assumes nothing.
 use Prim.Native.Nat.{ℕ, zero, suc, ◌≤◌, ◌<◌}
-use mathlib.Core.Path.{◌≡◌, refl, sym, ◌∙◌}
+use mathlib.Core.Path.{◌≡◌, refl, sym, ap, ◌∙◌}
 use mathlib.Core.Logic.{⊎_elim}
 use mathlib.Core.Bool.{Bool, true, false, ◌&&◌, ◌||◌}
 use mathlib.Core.List.{List, [], ◌∷◌}
@@ -9,6 +9,10 @@ use native.Mathlib.Omega.{arith}
 use lib.Dec.{eqb, ltb}
 use lib.ListN.{length, get_or, length-map, get_or-eq_default}
 use borrow.Author.Tests.{eqb-true, eqb-false, eq-eqb, ne_eqb, le-ltb, ltb-false}
+use denote.Ref.{Bor}
+use Rattle.std.specs.Prelude.{Option, Some, None}
+use Rattle.std.specs.List.{HoldsAt}
+use Rattle.std.specs.Option.{MatchOption}
 use Rattle.base.specs.Search.{every, some}
 use Rattle.base.proofs.Search.{some_at, some_none, first_none, first_below}
 use Rattle.base.proofs.Bools.{both, clash, lt_or_ge}
@@ -37,6 +41,13 @@ vector_at (b ∷ s) (suc k) h = vector_at s k (omega arith)
 
 pub vector_past : (s : List ℕ) (k : ℕ) → length s ≤ k → get_or (vector_in s) k V0 ≡ V0
 vector_past s k h = get_or-eq_default (vector_in s) V0 {n = k} (omega (arith, vector_length s))
+
+-- what a byte, or none, says of its place
+pub place_of : (s : List ℕ) (k : ℕ) (o : Option (Bor ℕ)) (y : Ternary) (Says : Bor ℕ → Type 0)
+    → MatchOption o (length s ≤ k) (λ b. (k < length s) × HoldsAt (λ x. b.now ≡ x) s k)
+    → MatchOption o (y ≡ V0) Says → ((b : Bor ℕ) → Says b → y ≡ value_in b.now) → y ≡ get_or (vector_in s) k V0
+place_of s k None y Says p h f = h ∙ sym (vector_past s k p)
+place_of s k (Some b) y Says p h f = f b h ∙ ap value_in (p.1 0) ∙ sym (vector_at s k p.0)
 
 pub padded_length : (v : List Ternary) → length (padded v) ≡ input_limit
 unfolding padded

@@ -1,22 +1,16 @@
 -- What the bytes of a call say: vectors, an old output, an order.
-use Rattle.std.specs.Prelude.{ℕ, Bool, true, false, ◌&&◌, ◌||◌, List, map, eqb, ltb, length, get_or}
+use Rattle.std.specs.Prelude.{ℕ, Bool, ◌&&◌, ◌||◌, List, map, eqb, ltb, length, get_or, unwrap_or}
+use Rattle.std.specs.Option.{is_some}
 use Rattle.base.specs.Search.{every, some, first}
 use Rattle.base.specs.Listed.{listed}
 use Rattle.base.specs.Limits.{input_limit}
 use Rattle.value.specs.declared.Ternary.{Ternary}
-use Rattle.value.specs.declared.Ternary.TheVariants.{V0}
-use Rattle.value.specs.declared.Byte.{Byte}
-use Rattle.value.specs.declared.Byte.TheVariants.{Value, Other}
+use Rattle.value.specs.declared.Ternary.TheVariants.{V0, Vx}
 use Rattle.value.specs.Value.{read_byte}
-use Rattle.table.specs.Area.{or_x}
-
-unfoldable pub is_told : Byte → Bool
-is_told (Value v) = true
-is_told Other = false
 
 -- the byte is one of the three values
 unfoldable pub is_value : ℕ → Bool
-is_value b = is_told (read_byte b)
+is_value b = is_some (read_byte b)
 
 -- n values
 unfoldable pub good_vector : ℕ → List ℕ → Bool
@@ -26,7 +20,7 @@ unfoldable pub good_values : ℕ → List ℕ → List ℕ → ℕ → Bool
 good_values n prev cur old = good_vector n prev && (good_vector n cur && is_value old)
 
 unfoldable pub value_in : ℕ → Ternary
-value_in b = or_x (read_byte b)
+value_in b = unwrap_or (read_byte b) Vx
 
 unfoldable pub vector_in : List ℕ → List Ternary
 vector_in s = map value_in s

@@ -1,139 +1,99 @@
 #![tactic(auto)]
 
 ghost use Rattle.std.specs.Prelude.{◌≡◌, ◌<◌, eqb, length, get_or};
-ghost use Rattle.base.specs.Search.{some};
+ghost use Rattle.base.specs.Search.{some, found};
 ghost use Rattle.value.specs.declared.Ternary.TheVariants.{V0};
 ghost use Rattle.evaluation.specs.Call.{evaluated};
-ghost use Rattle.evaluation.specs.Called.{is_value, value_in, good_vector, good_values, vector_in, padded, faulty, first_fault};
+ghost use Rattle.evaluation.specs.Called.{is_value, value_in, good_vector, good_values, vector_in, padded, faulty};
 
-use value::{Byte, Ternary};
+use refusal::{Fault, Refusal};
+use std::array;
+use value::Ternary;
 
+#[tactic(auto, unfolding(crate::specs::Called::is_value))]
 fn is_value(b: u8) -> bool
     ensures { result ≡ is_value b }
 {
-    let y = Ternary::from_byte(b);
-    match y {
-        Byte::Value(_) => true,
-        Byte::Other => false,
-    }
+    Ternary::from_byte(b).is_some()
 }
 
+#[tactic(auto, unfolding(crate::specs::Called::value_in))]
 fn value_said(b: u8) -> Ternary
     ensures { result ≡ value_in b }
 {
-    let y = Ternary::from_byte(b);
-    match y {
-        Byte::Value(v) => v,
-        Byte::Other => Ternary::X,
-    }
+    Ternary::from_byte(b).unwrap_or(Ternary::X)
 }
 
 fn good_vector(n: usize, s: &[u8]) -> bool
     ensures { result ≡ good_vector n s.now }
 {
-    if s.len() != n {
-        return false;
-    }
-    let mut k: usize = 0;
-    while k < s.len() {
-        if !is_value(s[k]) {
-            return false;
-        }
-        k += 1;
-    }
-    true
+    s.len() == n && s.iter().all(|b| is_value(*b))
 }
 
+#[tactic(auto, unfolding(crate::specs::Called::good_values))]
 fn good_values(n: usize, prev: &[u8], cur: &[u8], old: u8) -> bool
     ensures { result ≡ good_values n prev.now cur.now old }
 {
-    good_vector(n, prev) & (good_vector(n, cur) & is_value(old))
+    good_vector(n, prev) && good_vector(n, cur) && is_value(old)
 }
 
+// The value at a place of the vector that the bytes say, 0 past its end.
 fn place_in(s: &[u8], k: usize) -> Ternary
     ensures { result ≡ get_or (vector_in s.now) k V0 }
 {
-    if k < s.len() {
-        return value_said(s[k]);
-    }
-    Ternary::ZERO
+    s.get(k).map_or(Ternary::ZERO, |b| value_said(*b))
 }
 
-// The vector that the bytes say, with 0 in the places past its end.
+// That vector, with 0 in the places past its end.
 #[tactic(auto, unfolding(crate::specs::Called::padded))]
 fn vector_in(s: &[u8]) -> [Ternary; base::INPUTS]
     ensures { result ≡ padded (vector_in s.now) }
 {
-    let mut v = [Ternary::ZERO; base::INPUTS];
-    let mut k: usize = 0;
-    while k < base::INPUTS {
-        let y = place_in(s, k);
-        v[k] = y;
-        k += 1;
-    }
-    v
+    array::from_fn(|k| place_in(s, k))
 }
 
 fn repeats(l: &[u8], k: usize) -> bool
     requires { k < length l.now }
     ensures { result ≡ some k (λ m. eqb (get_or l.now m 0) (get_or l.now k 0)) }
 {
-    let b = l[k];
-    let mut m: usize = 0;
-    while m < k {
-        if l[m] == b {
-            return true;
-        }
-        m += 1;
-    }
-    false
+    l[..k].contains(&l[k])
 }
 
+#[tactic(auto, unfolding(crate::specs::Called::faulty))]
 fn is_faulty(n: usize, l: &[u8], k: usize) -> bool
     requires { k < length l.now }
     ensures { result ≡ faulty n l.now k }
 {
-    let x = base::wide(l[k]);
-    ((x == 0) | (n < x)) | repeats(l, k)
+    !(1..=n).contains(&usize::from(l[k])) || repeats(l, k)
 }
 
-fn first_fault(n: usize, l: &[u8]) -> usize
-    ensures { result ≡ first_fault n l.now }
+fn first_fault(n: usize, l: &[u8]) -> Option<usize>
+    ensures { result ≡ found (length l.now) (faulty n l.now) }
 {
-    let mut k: usize = 0;
-    while k < l.len() {
-        if is_faulty(n, l, k) {
-            return k;
-        }
-        k += 1;
-    }
-    k
-}
-
-// What evaluation of an order answers: the output, or a refusal with its number and place.
-#[derive(Clone, Copy)]
-pub enum Evaluated {
-    Output(Ternary),
-    Refused(u8, usize),
+    (0..l.len()).find(|k| is_faulty(n, l, *k))
 }
 
 // Evaluates a lent table along an order, from the previous to the current vector.
-pub fn evaluate(area: &[u8], prev: &[u8], cur: &[u8], old: u8, order: &[u8]) -> Evaluated
+pub fn evaluate(
+    area: &[u8],
+    prev: &[u8],
+    cur: &[u8],
+    old: u8,
+    order: &[u8],
+) -> Result<Ternary, Refusal>
     ensures { result ≡ evaluated area.now prev.now cur.now old order.now }
 {
     if !formed::well_formed(area) {
-        return Evaluated::Refused(10, 0);
+        return Err(Fault::Area.at(0));
     }
-    let n = table::inputs(area);
-    if !good_values(n, prev, cur, old) {
-        return Evaluated::Refused(11, 0);
+    let inputs = table::inputs(area);
+    if !good_values(inputs, prev, cur, old) {
+        return Err(Fault::Value.at(0));
     }
-    let fault = first_fault(n, order);
-    let faulty = fault < order.len();
-    if faulty {
-        return Evaluated::Refused(12, fault);
+    if let Some(place) = first_fault(inputs, order) {
+        return Err(Fault::Order.at(place));
     }
-    Evaluated::Output(step::follow(
+    Ok(step::follow(
         area,
         vector_in(prev),
         vector_in(cur),

@@ -12,6 +12,7 @@ use Rattle.base.specs.Search.{every}
 use Rattle.base.proofs.Bools.{both, and}
 use Rattle.base.proofs.Search.{every_at, every_of}
 use Rattle.table.specs.Table.{Table}
+use Rattle.memo.specs.declared.Memo.{Memo}
 use Rattle.memo.specs.Rows.{cell_at, entry_of}
 use Rattle.memo.specs.Pair.{first_then, second_then}
 use Rattle.planes.specs.Words.{Told}
@@ -68,16 +69,20 @@ module _ (t : Table) (s : List (List ℕ)) (i j rest : ℕ) where
       go false e true z = let k : b ≡ y = eqb-true b y z in rw k (second_idle a x y o)
       go false e false z = h e z
 
-module _ (t : Table) (s : List (List ℕ)) (outs g : List ℕ) (n i j r : ℕ) (d : Given t s outs n i j) where
+module _ (t : Table) (memo : Memo) (g : List ℕ) (i j r : ℕ) (d : Given t memo i j) where
+  abbrev s : List (List ℕ)
+  s = memo.cells
+
   -- the step of column c, in words
-  step_told : (c h : ℕ) (f : List (List ℕ)) → Steps outs s g n c h r f → (u w a o : ℕ) → u < 3 → w < 3 → a < 3 → o < 3 → eqb a u ≡ false →
+  step_told : (c h : ℕ) (f : List (List ℕ)) → Steps memo g c h r f → (u w a o : ℕ) → u < 3 → w < 3 → a < 3 → o < 3 → eqb a u ≡ false →
       Told 3 (get_or f (steps_at u w a + o) []) (λ (l : ℕ). entry_of t s c (besides s g h r w l) u a o)
-  step_told c h f st u w a o lu lw la lo e = told_same 3 _ _ _ (λ l lt. enter_is t s outs n i j d o lo g c h r u w a l e) (st.at u w a o lu lw la lo e)
+  step_told c h f st u w a o lu lw la lo e = told_same 3 _ _ _ (λ l lt. enter_is t memo i j d o lo g c h r u w a l e)
+      (st.at d.outputs.low u w a o lu lw la lo e)
 
   abbrev rest : ℕ → ℕ
   rest l = bit_and r (lane_rows g l)
 
-  module _ (f h : List (List ℕ)) (sf : Steps outs s g n i j r f) (sh : Steps outs s g n j i r h) where
+  module _ (f h : List (List ℕ)) (sf : Steps memo g i j r f) (sh : Steps memo g j i r h) where
     -- where both columns change, the words tell both ways
     module _ (a b x y : ℕ) (la : a < 3) (lb : b < 3) (lx : x < 3) (ly : y < 3) (p : eqb a x ≡ false) (q : eqb b y ≡ false) where
       abbrev Same : Type 0
@@ -97,10 +102,10 @@ module _ (t : Table) (s : List (List ℕ)) (outs g : List ℕ) (n i j r : ℕ) (
           (λ z lz. step_told j i h sh y x b z ly lx lb lz q)
           (λ o lo. step_told j i h sh y a b o ly la lb lo q)
           (λ z lz. step_told i j f sf x y a z lx ly la lz p)
-          (λ o l lo. entry_low t s outs n i j d o lo i _ x a)
-          (λ o l lo. entry_low t s outs n i j d o lo j _ y b)
-          (λ z l lz. entry_low t s outs n i j d z lz j _ y b)
-          (λ z l lz. entry_low t s outs n i j d z lz i _ x a)
+          (λ o l lo. entry_low t memo i j d o lo i _ x a)
+          (λ o l lo. entry_low t memo i j d o lo j _ y b)
+          (λ z l lz. entry_low t memo i j d z lz j _ y b)
+          (λ z l lz. entry_low t memo i j d z lz i _ x a)
 
     agrees : every 27 (agree_in f h) ≡ true → (l : ℕ) → l < 27 → Agree t s i j (rest l)
     unfolding agree_at
@@ -126,16 +131,17 @@ module _ (t : Table) (s : List (List ℕ)) (outs g : List ℕ) (n i j r : ℕ) (
           here w lw e = at_each (k / 9) (k / 3 % 3) (k % 3) w (omega arith) (omega arith) (omega arith) lw e
 
           go : (b : Bool) → eqb (k % 3) (k / 9) ≡ b →
-              cond b true (agree_at f h (k / 9) (k / 3 % 3) (k % 3) 0 && (agree_at f h (k / 9) (k / 3 % 3) (k % 3) 1 && agree_at f h (k / 9) (k / 3 % 3) (k % 3) 2)) ≡ true
+              cond b true (agree_at f h (k / 9) (k / 3 % 3) (k % 3) 0 &&
+              (agree_at f h (k / 9) (k / 3 % 3) (k % 3) 1 && agree_at f h (k / 9) (k / 3 % 3) (k % 3) 2)) ≡ true
           go true e = refl
           go false e = and (here 0 (omega arith) e) (and (here 1 (omega arith) e) (here 2 (omega arith) e))
 
       all_agree_lem : every 27 (agree_in f h) ≡ true
       all_agree_lem = every_of (agree_in f h) 27 in_each
 
-pub lanes_tell : (s : List (List ℕ)) (outs g : List ℕ) (n i j r : ℕ) (f h : List (List ℕ)) (b : Bool) → Steps outs s g n i j r f → Steps outs s g n j i r h →
-    b ≡ every 27 (agree_in f h) → LanesTell s outs g n i j r b
-lanes_tell s outs g n i j r f h b sf sh e = record {
-  sound = λ q. record { at = λ t l lt d. agrees t s outs g n i j r d f h sf sh (sym e ∙ q) l lt };
-  whole = λ t d a. e ∙ all_agree_lem t s outs g n i j r d f h sf sh a;
+pub lanes_tell : (memo : Memo) (g : List ℕ) (i j r : ℕ) (f h : List (List ℕ)) (b : Bool) → Steps memo g i j r f → Steps memo g j i r h →
+    b ≡ every 27 (agree_in f h) → LanesTell memo g i j r b
+lanes_tell memo g i j r f h b sf sh e = record {
+  sound = λ q. record { at = λ t l lt d. agrees t memo g i j r d f h sf sh (sym e ∙ q) l lt };
+  whole = λ t d a. e ∙ all_agree_lem t memo g i j r d f h sf sh a;
 }

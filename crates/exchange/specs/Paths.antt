@@ -6,14 +6,17 @@ use Rattle.exchange.specs.Lanes.{steps_at}
 abbrev pub word_at : List (List ℕ) → ℕ → ℕ → ℕ
 word_at f p m = get_or (get_or f p []) m 0
 
--- the lanes in which step p of f and then the steps from q on of h give m
-unfoldable pub path_of : List (List ℕ) → List (List ℕ) → ℕ → ℕ → ℕ → ℕ
-path_of f h p q m =
-    bit_or (bit_and (word_at f p 0) (word_at h q m)) (bit_or (bit_and (word_at f p 1) (word_at h (q + 1) m)) (bit_and (word_at f p 2) (word_at h (q + 2) m)))
+-- the lanes in which the step that the words p tell, and then the steps from q on of h, give m
+unfoldable pub path_of : List ℕ → List (List ℕ) → ℕ → ℕ → ℕ
+path_of p h q m =
+    bit_or (bit_and (get_or p 0 0) (word_at h q m)) (bit_or (bit_and (get_or p 1 0) (word_at h (q + 1) m)) (bit_and (get_or p 2 0) (word_at h (q + 2) m)))
 
--- the lanes in which two such ways differ
+-- the lanes in which two such ways differ: by step p of f and the steps from q on of h, and by step u of h and those from v on of f
 unfoldable pub differ_of : List (List ℕ) → List (List ℕ) → ℕ → ℕ → ℕ → ℕ → ℕ
-differ_of f h p q u v = bit_or (bit_xor (path_of f h p q 1) (path_of h f u v 1)) (bit_xor (path_of f h p q 2) (path_of h f u v 2))
+differ_of f h p q u v =
+    bit_or
+    (bit_xor (path_of (get_or f p []) h q 1) (path_of (get_or h u []) f v 1))
+    (bit_xor (path_of (get_or f p []) h q 2) (path_of (get_or h u []) f v 2))
 
 -- they agree in every lane for every old output
 unfoldable pub agree_of : List (List ℕ) → List (List ℕ) → ℕ → ℕ → ℕ → ℕ → Bool

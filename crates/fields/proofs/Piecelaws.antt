@@ -1,83 +1,64 @@
--- What may stand in a field. Assumes nothing.
-use mathlib.Core.Path.{◌≡◌, refl, sym}
-use mathlib.Core.Bool.{Bool, true, false, not, cond}
-use mathlib.Core.List.{List, [], ◌∷◌}
-use mathlib.Core.Option.{Option, none, some}
-use Prim.Native.Nat.{ℕ}
-use Rattle.base.proofs.Bools.{clash}
-use Rattle.symbol.specs.declared.Level.{Level}
-use Rattle.symbol.specs.declared.Level.TheVariants.{Any}
+-- What a field says, read behind blanks. Assumes nothing.
+use Rattle.std.proofs.Common.{◌≡◌, ℕ, ◌+◌, Bool, true, false, List, [], drop, Option, Some, None, Result, Ok, Err, refl}
+use Rattle.std.specs.Prelude.{ok_or}
+use Rattle.refusal.specs.declared.Refusal.{Refusal}
+use Rattle.refusal.specs.declared.Fault.TheVariants.{Symbol as SymbolFault}
 use Rattle.symbol.specs.declared.Symbol.{Symbol}
-use Rattle.symbol.specs.declared.Symbol.TheVariants.{Held, Edge, Rise, Fall, Positive, Negative, Every}
-use Rattle.symbol.specs.declared.Output.{Output}
-use Rattle.symbol.specs.declared.Output.TheVariants.{Outx}
-use Rattle.symbol.specs.Match.{is_edge}
-use borrow.Author.Tests.{eqb-true}
+use Rattle.symbol.specs.declared.Symbol.TheVariants.{Edge}
 use Rattle.text.specs.Bytes.{is_symbol}
-use Rattle.text.specs.Blanks.{begins, one}
-use Rattle.grammar.specs.Rows.{column_of, may_stand, state_of, level_in, level_out, output_said}
-use Rattle.fields.specs.declared.Token.{Token}
-use Rattle.fields.specs.declared.Token.TheVariants.{Entry, Dash}
-use Rattle.fields.specs.Pieces.{written_as, is_some, or_else, as_symbol, as_level, as_output}
+use Rattle.text.specs.Blanks.{one, begins}
+use Rattle.text.specs.Reader.{got, refused, ◌>>=◌, ◌>>◌, bind, give, need, check, if, skip, said, mark}
+use Rattle.text.specs.Places.{meant, ended, stood}
+use Rattle.text.proofs.Blanklaws.{skip_still}
+use Rattle.text.proofs.Readlaws.{mark_at, ahead_is, ahead_one}
+use Rattle.grammar.specs.Rows.{Written, symbol, written_of, state_of, column_of, written, saying, field, columns}
+use Rattle.fields.specs.Pieces.{written_as, column}
 
--- ---- what may stand in a field says something there
+-- what is read in its place
+pub in_place : {A B : Type 0} (t : List ℕ) (a : A) (b : B) (r : Result ℕ Refusal) → bind (ended t a r) (λ x. give b) ≡ ended t b r
+in_place t a b (Ok e) = refl
+in_place t a b (Err r) = refl
 
-pub column_yes : (edge : Bool) (w : Token) → is_some (column_of edge (written_as w)) ≡ true → column_of edge (written_as w) ≡ some (as_symbol w)
-column_yes edge (Entry s) e = go (may_stand edge s) e
-  where
-    go : (b : Bool) → is_some (cond b (some s) none) ≡ true → cond b (some s) none ≡ some s
-    go true e = refl
-    go false e = clash (sym e)
-column_yes edge Dash e = clash (sym e)
+module _ (t : List ℕ) where
+  -- what says nothing is 8
+  pub need_is : {A : Type 0} (o : Option A) (p k : ℕ)
+      → need o 8 p k (drop k t) ≡ meant t (λ a. k) (λ a. a) (ok_or o (record { fault = SymbolFault; place = p }))
+  unfolding need
+  need_is None p k = refl
+  need_is (Some a) p k = refl
 
-none_of : {A : Type 0} (o : Option A) → is_some o ≡ false → o ≡ none
-none_of none e = refl
-none_of (some a) e = clash e
+  module _ (i : ℕ) where
+    -- a pair, and what is no pair
+    pub pair_is : one 40 (drop i t) ≡ true → written i (drop i t)
+        ≡ bind (saying state_of (said written_of) (i + 1) (drop (i + 1) t))
+        (λ v. saying state_of (said written_of) >>= λ w. mark 41 >> give (symbol (Edge v w)))
+    unfolding written ◌>>=◌ if
+    pair_is e = rw (ahead_one 40 i (drop i t), e, mark_at t i 40, e)
 
-pub level_yes : (w : Token) → is_some (state_of (written_as w)) ≡ true → state_of (written_as w) ≡ some (as_level w)
-level_yes w e = go (state_of (written_as w)) e
-  where
-    go : (o : Option Level) → is_some o ≡ true → o ≡ some (or_else Any o)
-    go none e = clash (sym e)
-    go (some l) e = refl
+    pub byte_is : one 40 (drop i t) ≡ false → written i (drop i t) ≡ said written_of i (drop i t)
+    unfolding written ◌>>=◌ if
+    byte_is e = rw (ahead_one 40 i (drop i t), e)
 
-pub output_yes : (sequential : Bool) (w : Token) → is_some (output_said sequential (written_as w)) ≡ true → output_said sequential (written_as w) ≡ some (as_output w)
-output_yes sequential (Entry s) e = go (level_out (level_in s)) e
-  where
-    go : (o : Option Output) → is_some o ≡ true → o ≡ some (or_else Outx o)
-    go none e = clash (sym e)
-    go (some l) e = refl
-output_yes true Dash e = refl
-output_yes false Dash e = clash (sym e)
+    module _ (at : ℕ) (blank : skip at (drop at t) ≡ got tt i (drop i t)) where
+      -- a field, and a column
+      module _ (w : Result (Option Symbol × ℕ) Refusal) (e : written i (drop i t) ≡ stood t written_as w) where
+        pub field_is : {A : Type 0} (f : Written → Option A) → field f at (drop at t) ≡ bind (stood t written_as w) (λ x. need (f x) 8 i)
+        unfolding field saying ◌>>=◌
+        field_is f = rw (blank, e)
 
-pub column_no : (edge : Bool) (w : Token) → is_some (column_of edge (written_as w)) ≡ false → column_of edge (written_as w) ≡ none
-column_no edge w e = none_of (column_of edge (written_as w)) e
+        pub column_is : (edge : Bool) → one 58 (drop i t) ≡ false → column edge at (drop at t) ≡ bind (stood t written_as w) (λ x. need (column_of edge x) 8 i)
+        unfolding column field saying ◌>>=◌ check
+        column_is edge c = rw (blank, ahead_one 58 i (drop i t), c, skip_still at i _ _ blank, e)
 
-pub level_no : (w : Token) → is_some (state_of (written_as w)) ≡ false → state_of (written_as w) ≡ none
-level_no w e = none_of (state_of (written_as w)) e
+      pub column_few : (edge : Bool) → one 58 (drop i t) ≡ true → column edge at (drop at t) ≡ refused 7 i
+      unfolding column ◌>>=◌ check
+      column_few edge c = rw (blank, ahead_one 58 i (drop i t), c)
 
-pub output_no : (sequential : Bool) (w : Token) → is_some (output_said sequential (written_as w)) ≡ false → output_said sequential (written_as w) ≡ none
-output_no sequential w e = none_of (output_said sequential (written_as w)) e
+      -- the colon behind the columns
+      pub colon_is : (edge : Bool) → begins is_symbol (drop i t) ≡ false → columns 0 edge at (drop at t) ≡ bind (mark 58 i (drop i t)) (λ x. give [])
+      unfolding columns ◌>>=◌ check
+      colon_is edge c = rw (blank, ahead_is is_symbol i (drop i t), c)
 
-pub level_held : (s : Symbol) → is_some (level_in s) ≡ not (is_edge s)
-unfolding is_edge
-level_held (Held l) = refl
-level_held (Edge v w) = refl
-level_held Rise = refl
-level_held Fall = refl
-level_held Positive = refl
-level_held Negative = refl
-level_held Every = refl
-
-pub some_cond : {A : Type 0} (b : Bool) (a : A) → is_some (cond b (some a) none) ≡ b
-some_cond true a = refl
-some_cond false a = refl
-
-pub dash_out : (sequential : Bool) → is_some (output_said sequential (written_as Dash)) ≡ sequential
-dash_out true = refl
-dash_out false = refl
-
--- no symbol begins with a colon
-pub colon_no_symbol : (s : List ℕ) → one 58 s ≡ true → begins is_symbol s ≡ false
-colon_no_symbol [] e = clash (sym e)
-colon_no_symbol (b ∷ l) e = let c : b ≡ 58 = eqb-true b 58 e in rw c
+      pub colon_extra : (edge : Bool) → begins is_symbol (drop i t) ≡ true → columns 0 edge at (drop at t) ≡ refused 7 i
+      unfolding columns ◌>>=◌ check
+      colon_extra edge c = rw (blank, ahead_is is_symbol i (drop i t), c)

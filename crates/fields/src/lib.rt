@@ -1,308 +1,166 @@
 #![tactic(auto)]
 
-// The fields of a row: symbols, columns, states, outputs.
-ghost use Rattle.std.specs.Prelude.{◌≡◌, [], drop};
+// The fields of a row: symbols, columns, states, outputs. What is written in a field is a symbol, or `-`, for which stands None.
+ghost use Rattle.std.specs.Prelude.{◌≡◌, [], drop, option_map};
 ghost use Rattle.text.specs.Bytes.{is_symbol};
 ghost use Rattle.text.specs.Blanks.{begins};
 ghost use Rattle.text.specs.Reader.{said};
-ghost use Rattle.text.specs.Places.{meant};
+ghost use Rattle.text.specs.Places.{ended, stood};
 ghost use Rattle.grammar.specs.Rows.{written_of, column_of, state_of, output_said, saying, written, field, columns, state, begins_row};
-ghost use Rattle.fields.specs.Pieces.{written_as, said_as, means, stopped as stoppedAs, raised as raisedAs, is_some, as_symbol, as_level, as_output, column};
+ghost use Rattle.fields.specs.Pieces.{written_as, column};
 
+use refusal::{Fault, Refusal};
 use symbol::{Level, Output, Symbol};
 use text::Step;
 
-// What stands in a field: a symbol or `-`.
-#[derive(Clone, Copy)]
-pub enum Token {
-    Entry(Symbol),
-    Dash,
-}
-
-// What one byte says.
-#[derive(Clone, Copy)]
-pub enum Said {
-    Is(Token),
-    Nothing,
-}
-
-// A token and the place behind it, or a refusal's number and place.
-#[derive(Clone, Copy)]
-pub enum Piece {
-    At(Token, usize),
-    Refused(u8, usize),
-}
-
-// A step's refusal as a piece's.
-fn stopped(s: Step) -> Piece
-    ensures { result ≡ stoppedAs s }
-{
-    match s {
-        Step::At(_, e) => Piece::Refused(3, e),
-        Step::Refused(n, p) => Piece::Refused(n, p),
-    }
-}
-
-// A piece's refusal as a step's.
-pub fn raised(w: Piece) -> Step
-    ensures { result ≡ raisedAs w }
-{
-    match w {
-        Piece::At(_, e) => Step::Refused(3, e),
-        Piece::Refused(n, p) => Step::Refused(n, p),
-    }
-}
-
-fn token_of(b: u8) -> Said
-    ensures { said_as result ≡ written_of b }
+// What one byte writes, if it writes something.
+fn written_by(b: u8) -> Option<Option<Symbol>>
+    ensures { option_map written_as result ≡ written_of b }
 {
     match b {
-        b'0' => Said::Is(Token::Entry(Symbol::Held(Level::Zero))),
-        b'1' => Said::Is(Token::Entry(Symbol::Held(Level::One))),
-        b'x' | b'X' => Said::Is(Token::Entry(Symbol::Held(Level::Unknown))),
-        b'b' | b'B' => Said::Is(Token::Entry(Symbol::Held(Level::Binary))),
-        b'?' => Said::Is(Token::Entry(Symbol::Held(Level::Any))),
-        b'r' | b'R' => Said::Is(Token::Entry(Symbol::Rise)),
-        b'f' | b'F' => Said::Is(Token::Entry(Symbol::Fall)),
-        b'p' | b'P' => Said::Is(Token::Entry(Symbol::Positive)),
-        b'n' | b'N' => Said::Is(Token::Entry(Symbol::Negative)),
-        b'*' => Said::Is(Token::Entry(Symbol::Every)),
-        b'-' => Said::Is(Token::Dash),
-        _ => Said::Nothing,
+        b'0' => Some(Some(Symbol::Held(Level::Zero))),
+        b'1' => Some(Some(Symbol::Held(Level::One))),
+        b'x' | b'X' => Some(Some(Symbol::Held(Level::Unknown))),
+        b'b' | b'B' => Some(Some(Symbol::Held(Level::Binary))),
+        b'?' => Some(Some(Symbol::Held(Level::Any))),
+        b'r' | b'R' => Some(Some(Symbol::Rise)),
+        b'f' | b'F' => Some(Some(Symbol::Fall)),
+        b'p' | b'P' => Some(Some(Symbol::Positive)),
+        b'n' | b'N' => Some(Some(Symbol::Negative)),
+        b'*' => Some(Some(Symbol::Every)),
+        b'-' => Some(None),
+        _ => None,
     }
 }
 
-// A token of one byte.
-fn token_at(text: &[u8], at: usize) -> Piece
-    ensures { said written_of at (drop at text.now) ≡ means text.now written_as result }
+// What is written by one byte.
+fn read_byte(text: &[u8], at: usize) -> Step<Option<Symbol>>
+    ensures { said written_of at (drop at text.now) ≡ stood text.now written_as result }
 {
-    if text.len() <= at {
-        return Piece::Refused(text::fault_number(text, at), at);
-    }
-    let s = token_of(text[at]);
-    match s {
-        Said::Is(w) => Piece::At(w, at + 1),
-        Said::Nothing => Piece::Refused(text::fault_number(text, at), at),
-    }
-}
-
-fn is_level(w: Token) -> bool
-    ensures { result ≡ is_some (state_of (written_as w)) }
-{
-    match w {
-        Token::Entry(s) => !symbol::is_edge(s),
-        Token::Dash => false,
+    let Some(b) = text.get(at) else {
+        return Err(text::fault_at(text, at));
+    };
+    match written_by(*b) {
+        Some(written) => Ok((written, at + 1)),
+        None => Err(text::fault_at(text, at)),
     }
 }
 
-// The level that a token says.
-pub fn level_in(w: Token) -> Level
-    ensures { result ≡ as_level w }
+// What may stand in a column, where `edge` tells whether an edge may.
+fn column_of(written: Option<Symbol>, edge: bool) -> Option<Symbol>
+    ensures { result ≡ column_of edge (written_as written) }
 {
-    match w {
-        Token::Entry(s) => match s {
-            Symbol::Held(l) => l,
-            Symbol::Edge(_, _) => Level::Any,
-            Symbol::Rise => Level::Any,
-            Symbol::Fall => Level::Any,
-            Symbol::Positive => Level::Any,
-            Symbol::Negative => Level::Any,
-            Symbol::Every => Level::Any,
-        },
-        Token::Dash => Level::Any,
+    let s = written?;
+    if offers::is_possible(s) & (edge | !symbol::is_edge(s)) {
+        return Some(s);
     }
+    None
 }
 
-// The symbol that a token says.
-pub fn symbol_in(w: Token) -> Symbol
-    ensures { result ≡ as_symbol w }
+// What may stand as a state.
+fn state_of(written: Option<Symbol>) -> Option<Level>
+    ensures { result ≡ state_of (written_as written) }
 {
-    match w {
-        Token::Entry(s) => s,
-        Token::Dash => Symbol::Held(Level::Any),
+    let Symbol::Held(level) = written? else {
+        return None;
+    };
+    Some(level)
+}
+
+// What may stand as an output.
+fn output_of(written: Option<Symbol>, sequential: bool) -> Option<Output>
+    ensures { result ≡ output_said sequential (written_as written) }
+{
+    match written {
+        Some(Symbol::Held(Level::Zero)) => Some(Output::Out0),
+        Some(Symbol::Held(Level::One)) => Some(Output::Out1),
+        Some(Symbol::Held(Level::Unknown)) => Some(Output::Outx),
+        None if sequential => Some(Output::Old),
+        _ => None,
     }
 }
 
 // A level inside a pair, behind blanks.
-fn read_inner(text: &[u8], at: usize) -> Piece
-    ensures { saying state_of (said written_of) at (drop at text.now) ≡ means text.now as_level result }
+fn read_inner(text: &[u8], at: usize) -> Step<Level>
+    ensures { saying state_of (said written_of) at (drop at text.now) ≡ stood text.now (λ l. l) result }
 {
     let p = text::skip_from(text, at);
-    let w = token_at(text, p);
-    let Piece::At(x, e) = w else {
-        return w;
-    };
-    if is_level(x) {
-        return Piece::At(x, e);
-    }
-    Piece::Refused(8, p)
+    let (written, end) = read_byte(text, p)?;
+    let level = state_of(written).ok_or(Fault::Symbol.at(p))?;
+    Ok((level, end))
 }
 
-// A symbol, a pair whole.
-fn read_token(text: &[u8], at: usize) -> Piece
-    ensures { written at (drop at text.now) ≡ means text.now written_as result }
+// What is written, a pair whole.
+fn read_written(text: &[u8], at: usize) -> Step<Option<Symbol>>
+    ensures { written at (drop at text.now) ≡ stood text.now written_as result }
 {
     if text::one_at(text, at, b'(') {
-        let v = read_inner(text, at + 1);
-        let Piece::At(x, i) = v else {
-            return v;
-        };
-        let w = read_inner(text, i);
-        let Piece::At(y, j) = w else {
-            return w;
-        };
-        let s = text::read_mark(text, j, b')');
-        let Step::At(_, k) = s else {
-            return stopped(s);
-        };
-        return Piece::At(Token::Entry(Symbol::Edge(level_in(x), level_in(y))), k);
+        let (from, i) = read_inner(text, at + 1)?;
+        let (to, j) = read_inner(text, i)?;
+        let end = text::read_mark(text, j, b')')?;
+        return Ok((Some(Symbol::Edge(from, to)), end));
     }
-    token_at(text, at)
-}
-
-// A token may stand in a column, where `edge` tells whether an edge may.
-fn fits_column(w: Token, edge: bool) -> bool
-    ensures { result ≡ is_some (column_of edge (written_as w)) }
-{
-    match w {
-        Token::Entry(s) => offers::is_possible(s) & (edge | !symbol::is_edge(s)),
-        Token::Dash => false,
-    }
-}
-
-// The output that a token says.
-pub fn output_in(w: Token) -> Output
-    ensures { result ≡ as_output w }
-{
-    match w {
-        Token::Entry(s) => match s {
-            Symbol::Held(l) => match l {
-                Level::Zero => Output::Out0,
-                Level::One => Output::Out1,
-                Level::Unknown => Output::Outx,
-                Level::Binary => Output::Outx,
-                Level::Any => Output::Outx,
-            },
-            Symbol::Edge(_, _) => Output::Outx,
-            Symbol::Rise => Output::Outx,
-            Symbol::Fall => Output::Outx,
-            Symbol::Positive => Output::Outx,
-            Symbol::Negative => Output::Outx,
-            Symbol::Every => Output::Outx,
-        },
-        Token::Dash => Output::Old,
-    }
-}
-
-// A token may stand as an output.
-fn fits_output(w: Token, sequential: bool) -> bool
-    ensures { result ≡ is_some (output_said sequential (written_as w)) }
-{
-    match w {
-        Token::Entry(s) => match s {
-            Symbol::Held(l) => match l {
-                Level::Zero => true,
-                Level::One => true,
-                Level::Unknown => true,
-                Level::Binary => false,
-                Level::Any => false,
-            },
-            Symbol::Edge(_, _) => false,
-            Symbol::Rise => false,
-            Symbol::Fall => false,
-            Symbol::Positive => false,
-            Symbol::Negative => false,
-            Symbol::Every => false,
-        },
-        Token::Dash => sequential,
-    }
+    read_byte(text, at)
 }
 
 // One column; a colon there is 7.
-pub fn read_column(text: &[u8], at: usize, edge: bool) -> Piece
-    ensures { column edge at (drop at text.now) ≡ means text.now as_symbol result }
+pub fn read_column(text: &[u8], at: usize, edge: bool) -> Step<Symbol>
+    ensures { column edge at (drop at text.now) ≡ stood text.now (λ s. s) result }
 {
     let i = text::skip_from(text, at);
     if text::one_at(text, i, b':') {
-        return Piece::Refused(7, i);
+        return Err(Fault::Columns.at(i));
     }
-    let w = read_token(text, i);
-    let Piece::At(x, e) = w else {
-        return w;
-    };
-    if fits_column(x, edge) {
-        return Piece::At(x, e);
-    }
-    Piece::Refused(8, i)
+    let (written, end) = read_written(text, i)?;
+    let s = column_of(written, edge).ok_or(Fault::Symbol.at(i))?;
+    Ok((s, end))
 }
 
 // A table symbol begins at a place.
 pub fn symbol_at(text: &[u8], at: usize) -> bool
     ensures { result ≡ begins is_symbol (drop at text.now) }
 {
-    if text.len() <= at {
-        return false;
-    }
-    text::is_symbol(text[at])
+    text.get(at).is_some_and(|b| text::is_symbol(*b))
 }
 
 // A row begins at a place.
 pub fn row_at(text: &[u8], at: usize) -> bool
     ensures { result ≡ begins begins_row (drop at text.now) }
 {
-    if symbol_at(text, at) {
-        return true;
-    }
-    text::one_at(text, at, b':')
+    symbol_at(text, at) | text::one_at(text, at, b':')
 }
 
 // The colon behind the last column; a symbol there is 7.
-pub fn read_colon(text: &[u8], at: usize, edge: bool) -> Step
-    ensures { columns 0 edge at (drop at text.now) ≡ meant text.now (λ a e. []) result }
+pub fn read_colon(text: &[u8], at: usize, edge: bool) -> Result<usize, Refusal>
+    ensures { columns 0 edge at (drop at text.now) ≡ ended text.now [] result }
 {
-    let i = text::skip_from(text, at);
-    if text::one_at(text, i, b':') {
-        return Step::At(i, i + 1);
+    let p = text::skip_from(text, at);
+    if symbol_at(text, p) {
+        return Err(Fault::Columns.at(p));
     }
-    if symbol_at(text, i) {
-        return Step::Refused(7, i);
-    }
-    text::fault_at(text, i)
+    text::read_mark(text, p, b':')
 }
 
 // A state with its colon; a combinational row's state counts as `?`.
-pub fn read_state(text: &[u8], at: usize, sequential: bool) -> Piece
-    ensures { state sequential at (drop at text.now) ≡ means text.now as_level result }
+pub fn read_state(text: &[u8], at: usize, sequential: bool) -> Step<Level>
+    ensures { state sequential at (drop at text.now) ≡ stood text.now (λ l. l) result }
 {
     if !sequential {
-        return Piece::At(Token::Entry(Symbol::Held(Level::Any)), at);
+        return Ok((Level::Any, at));
     }
     let p = text::skip_from(text, at);
-    let w = read_token(text, p);
-    let Piece::At(x, e) = w else {
-        return w;
-    };
-    if !is_level(x) {
-        return Piece::Refused(8, p);
-    }
-    let s = text::read_mark(text, e, b':');
-    let Step::At(_, j) = s else {
-        return stopped(s);
-    };
-    Piece::At(x, j)
+    let (written, i) = read_written(text, p)?;
+    let level = state_of(written).ok_or(Fault::Symbol.at(p))?;
+    let end = text::read_mark(text, i, b':')?;
+    Ok((level, end))
 }
 
 // An output.
-pub fn read_output(text: &[u8], at: usize, sequential: bool) -> Piece
-    ensures { field (output_said sequential) at (drop at text.now) ≡ means text.now as_output result }
+pub fn read_output(text: &[u8], at: usize, sequential: bool) -> Step<Output>
+    ensures { field (output_said sequential) at (drop at text.now) ≡ stood text.now (λ o. o) result }
 {
     let p = text::skip_from(text, at);
-    let w = read_token(text, p);
-    let Piece::At(x, e) = w else {
-        return w;
-    };
-    if fits_output(x, sequential) {
-        return Piece::At(x, e);
-    }
-    Piece::Refused(8, p)
+    let (written, end) = read_written(text, p)?;
+    let output = output_of(written, sequential).ok_or(Fault::Symbol.at(p))?;
+    Ok((output, end))
 }

@@ -1,250 +1,234 @@
 #![tactic(auto)]
 
-ghost use Rattle.std.specs.Prelude.{◌≡◌, ◌&&◌, ◌||◌, not, ◌<◌, ◌≤◌, length};
-ghost use Rattle.table.specs.Table.{row_at};
+ghost use Rattle.std.specs.Prelude.{◌≡◌, ◌&&◌, ◌||◌, not, ◌<◌, ◌≤◌, ◌%◌, eqb, length};
+ghost use Rattle.base.specs.Limits.{row_limit};
+ghost use Rattle.base.specs.Search.{found};
+ghost use Rattle.symbol.specs.declared.Symbol.TheVariants.{Held};
+ghost use Rattle.symbol.specs.Masks.{offers};
+ghost use Rattle.symbol.specs.Match.{is_edge};
+ghost use Rattle.table.specs.Table.{row_at, symbol_at};
 ghost use Rattle.table.specs.Match.{edge_at};
 ghost use Rattle.table.specs.Area.{decode};
-ghost use Rattle.base.specs.Limits.{input_limit, row_limit};
-ghost use Rattle.formed.specs.Cells.{CellsOf, RowCells};
-ghost use Rattle.formed.specs.Tests.{same_output, columns_meet, contradict, columns_valid, combinational, row_valid, rows_valid, row_agrees, rows_agree, within, head_valid, valid, well_formed};
+ghost use Rattle.formed.specs.Cells.{CellsOf, ReadBefore, CellsOfRows};
+ghost use Rattle.formed.specs.Tests.{columns_meet, contradict, columns_valid, combinational, row_valid, rows_valid, row_agrees, rows_agree, within, head_valid, valid, well_formed};
 
+use std::array;
 use symbol::Output;
 use value::Ternary;
 
-fn same_output(o: Output, u: Output) -> bool
-    ensures { result ≡ same_output o u }
-{
-    stored::output_byte(o) == stored::output_byte(u)
+// A row, read once: the sets of what its columns and its state may be offered, and its output.
+#[derive(Clone, Copy)]
+struct Cells {
+    columns: [u16; base::INPUTS],
+    state: u16,
+    output: Output,
 }
 
-fn columns_meet(a: &[u8], i: usize, j: usize) -> bool
-    ensures { result ≡ columns_meet (decode a.now).inputs (row_at (decode a.now) i) (row_at (decode a.now) j) }
-{
-    let n = table::inputs(a);
-    let mut k: usize = 0;
-    while k < n {
-        if (table::offers_in(a, i, k) & table::offers_in(a, j, k)) == 0 {
-            return false;
+// In a set bits 0 to 2 are the values, and the bits from this one on the changes.
+const CHANGES: u16 = 8;
+
+const EVERY_VALUE: u16 = 7;
+
+impl Cells {
+    const NONE: Cells = Cells {
+        columns: [0; base::INPUTS],
+        state: 0,
+        output: Output::Outx,
+    };
+
+    fn read(a: &[u8], i: usize) -> Cells
+        ensures { CellsOf (decode a.now) i result }
+    {
+        Cells {
+            columns: array::from_fn(|k| table::offers_in(a, i, k)),
+            state: table::state_offers(a, i),
+            output: table::output_in(a, i),
         }
-        k += 1;
     }
-    true
+}
+
+fn holds_edge(set: u16) -> bool
+    ensures { result ≡ eqb (set % CHANGES) 0 }
+{
+    set % CHANGES == 0
+}
+
+// A symbol of this set may stand in a column; an edge only here.
+fn may_stand(set: u16, here: bool) -> bool
+    ensures { result ≡ (not (eqb set 0) && (not (eqb (set % CHANGES) 0) || here)) }
+{
+    set != 0 && (!holds_edge(set) || here)
+}
+
+// A row of the table in an area; its cells where they have been read before.
+#[derive(Clone, Copy)]
+struct Row<'a> {
+    area: &'a [u8],
+    index: usize,
+    cells: Option<&'a Cells>,
+    ghost as_read: { ReadBefore (decode area.now) index cells },
+}
+
+impl<'a> Row<'a> {
+    fn new(area: &'a [u8], index: usize, cells: Option<&'a Cells>) -> Row<'a>
+        requires { ReadBefore (decode area.now) index cells }
+        ensures { (result.area.now ≡ area.now) × (result.index ≡ index) }
+    {
+        Row { area, index, cells }
+    }
+
+    // What column k may be offered, as a set.
+    fn column(&self, k: usize) -> u16
+        ensures { result ≡ offers (symbol_at (row_at (decode self.now.area.now) self.now.index) k) }
+    {
+        match self.cells {
+            Some(cells) if k < base::INPUTS => cells.columns[k],
+            _ => table::offers_in(self.area, self.index, k),
+        }
+    }
+
+    fn state(&self) -> u16
+        ensures { result ≡ offers (Held (row_at (decode self.now.area.now) self.now.index).state) }
+    {
+        match self.cells {
+            Some(cells) => cells.state,
+            None => table::state_offers(self.area, self.index),
+        }
+    }
+
+    fn output(&self) -> Output
+        ensures { result ≡ (row_at (decode self.now.area.now) self.now.index).output }
+    {
+        match self.cells {
+            Some(cells) => cells.output,
+            None => table::output_in(self.area, self.index),
+        }
+    }
+
+    // The first column with an edge.
+    fn edge(&self) -> Option<usize>
+        ensures { let t = decode self.now.area.now in result ≡ found t.inputs (λ k. is_edge (symbol_at (row_at t self.now.index) k)) }
+    {
+        (0..table::inputs(self.area)).find(|k| holds_edge(self.column(*k)))
+    }
+
+    fn columns_valid(&self) -> bool
+        ensures { let t = decode self.now.area.now in result ≡ columns_valid t.inputs (row_at t self.now.index) }
+    {
+        let edge = self.edge();
+        (0..table::inputs(self.area)).all(|k| may_stand(self.column(k), Some(k) == edge))
+    }
+
+    fn is_all_levels(&self) -> bool
+        ensures { let t = decode self.now.area.now in result ≡ eqb (edge_at t.inputs (row_at t self.now.index)) t.inputs }
+    {
+        self.edge().is_none()
+    }
+
+    #[tactic(auto, using(offers::proofs::Offers::any_offers), unfolding(crate::specs::Tests::combinational, stored::specs::Stored::output_byte))]
+    fn is_combinational(&self) -> bool
+        ensures { let t = decode self.now.area.now in result ≡ combinational t.inputs (row_at t self.now.index) }
+    {
+        self.is_all_levels() && self.state() == EVERY_VALUE && self.output() != Output::Old
+    }
+
+    #[tactic(auto, using(table::proofs::Encoding::decode_columns), unfolding(crate::specs::Tests::row_valid))]
+    fn is_valid(&self) -> bool
+        requires { self.now.index < length (decode self.now.area.now).rows }
+        ensures { let t = decode self.now.area.now in result ≡ row_valid t.inputs t.sequential (row_at t self.now.index) }
+    {
+        self.columns_valid() && (table::sequential(self.area) || self.is_combinational())
+    }
+
+    fn meets(&self, other: &Row) -> bool
+        requires { other.now.area.now ≡ self.now.area.now }
+        ensures { let t = decode self.now.area.now in result ≡ columns_meet t.inputs (row_at t other.now.index) (row_at t self.now.index) }
+    {
+        (0..table::inputs(self.area)).all(|k| other.column(k) & self.column(k) != 0)
+    }
+
+    #[tactic(auto, using(symbol::proofs::Offers::meet_offers), unfolding(crate::specs::Tests::contradict, crate::specs::Tests::levels_meet, crate::specs::Tests::same_output, stored::specs::Stored::output_byte))]
+    fn contradicts(&self, other: &Row) -> bool
+        requires { other.now.area.now ≡ self.now.area.now }
+        ensures { let t = decode self.now.area.now in result ≡ contradict t.inputs (row_at t other.now.index) (row_at t self.now.index) }
+    {
+        other.output() != self.output() && other.state() & self.state() != 0 && self.meets(other)
+    }
+
+    // The row contradicts none before it, of which the first ones may have been read.
+    fn agrees(&self, read: &[Cells]) -> bool
+        requires { CellsOfRows (decode self.now.area.now) read.now }
+        ensures { result ≡ row_agrees (decode self.now.area.now) self.now.index }
+    {
+        for i in 0..self.index {
+            let earlier = Row::new(self.area, i, read.get(i));
+            if self.contradicts(&earlier) {
+                return false;
+            }
+        }
+        true
+    }
 }
 
 // Rows i and j of the table that `a` holds contradict each other.
 pub fn contradicts(a: &[u8], i: usize, j: usize) -> bool
-    ensures { result ≡ contradict (decode a.now).inputs (row_at (decode a.now) i) (row_at (decode a.now) j) }
+    ensures { let t = decode a.now in result ≡ contradict t.inputs (row_at t i) (row_at t j) }
 {
-    if same_output(table::output_in(a, i), table::output_in(a, j)) {
-        return false;
-    }
-    if (table::state_offers(a, i) & table::state_offers(a, j)) == 0 {
-        return false;
-    }
-    columns_meet(a, i, j)
+    Row::new(a, j, None).contradicts(&Row::new(a, i, None))
 }
 
 // Row j contradicts none before it.
-#[tactic(auto, unfolding(crate::specs::Tests::row_agrees))]
 pub fn row_agrees(a: &[u8], j: usize) -> bool
     ensures { result ≡ row_agrees (decode a.now) j }
 {
-    let mut i: usize = 0;
-    while i < j {
-        if contradicts(a, i, j) {
-            return false;
-        }
-        i += 1;
-    }
-    true
-}
-
-// The cells of a row: its columns, its state, its output.
-const STATE: usize = base::INPUTS;
-
-const OUTPUT: usize = STATE + 1;
-
-const CELLS: usize = OUTPUT + 1;
-
-fn cells_in(a: &[u8], i: usize) -> [u16; CELLS]
-    requires { (decode a.now).inputs ≤ input_limit }
-    ensures { CellsOf (decode a.now) i result }
-{
-    let n = table::inputs(a);
-    let state = table::state_offers(a, i);
-    let output = stored::output_byte(table::output_in(a, i)) as u16;
-    let mut c = [0u16; CELLS];
-    c[STATE] = state;
-    c[OUTPUT] = output;
-    let mut k: usize = 0;
-    while k < n {
-        c[k] = table::offers_in(a, i, k);
-        k += 1;
-    }
-    c
-}
-
-// The three lowest bits are the values, of which an edge matches none.
-fn edge_at(a: &[u8], c: &[u16; CELLS], i: usize) -> usize
-    requires { CellsOf (decode a.now) i c.now }
-    ensures { result ≡ edge_at (decode a.now).inputs (row_at (decode a.now) i) }
-{
-    let n = table::inputs(a);
-    let mut k: usize = 0;
-    while k < n {
-        if c[k] % 8 == 0 {
-            return k;
-        }
-        k += 1;
-    }
-    k
-}
-
-fn columns_valid(a: &[u8], c: &[u16; CELLS], i: usize) -> bool
-    requires { CellsOf (decode a.now) i c.now }
-    ensures { result ≡ columns_valid (decode a.now).inputs (row_at (decode a.now) i) }
-{
-    let n = table::inputs(a);
-    let e = edge_at(a, c, i);
-    let mut k: usize = 0;
-    while k < n {
-        if !((c[k] != 0) & (!(c[k] % 8 == 0) | (k == e))) {
-            return false;
-        }
-        k += 1;
-    }
-    true
-}
-
-// 7 is the set of ?, and 45 the byte of -.
-fn is_combinational(a: &[u8], c: &[u16; CELLS], i: usize) -> bool
-    requires { CellsOf (decode a.now) i c.now }
-    ensures { result ≡ combinational (decode a.now).inputs (row_at (decode a.now) i) }
-{
-    let edge = edge_at(a, c, i);
-    let n = table::inputs(a);
-    (edge == n) & ((c[STATE] == 7) & !(c[OUTPUT] == 45))
-}
-
-fn row_valid(a: &[u8], c: &[u16; CELLS], i: usize) -> bool
-    requires { (i < length (decode a.now).rows) × CellsOf (decode a.now) i c.now }
-    ensures { result ≡ row_valid (decode a.now).inputs (decode a.now).sequential (row_at (decode a.now) i) }
-{
-    columns_valid(a, c, i) & (table::sequential(a) | is_combinational(a, c, i))
-}
-
-// s has the cells of the rows before row j, and c has those of row j.
-fn cells_meet(
-    a: &[u8],
-    s: &[[u16; CELLS]; base::ROWS],
-    c: &[u16; CELLS],
-    i: usize,
-    j: usize,
-) -> bool
-    requires { (i < j) × RowCells (decode a.now) j s.now × CellsOf (decode a.now) j c.now }
-    ensures { result ≡ columns_meet (decode a.now).inputs (row_at (decode a.now) i) (row_at (decode a.now) j) }
-{
-    let n = table::inputs(a);
-    let mut k: usize = 0;
-    while k < n {
-        if (s[i][k] & c[k]) == 0 {
-            return false;
-        }
-        k += 1;
-    }
-    true
-}
-
-fn cells_contradict(
-    a: &[u8],
-    s: &[[u16; CELLS]; base::ROWS],
-    c: &[u16; CELLS],
-    i: usize,
-    j: usize,
-) -> bool
-    requires { (i < j) × RowCells (decode a.now) j s.now × CellsOf (decode a.now) j c.now }
-    ensures { result ≡ contradict (decode a.now).inputs (row_at (decode a.now) i) (row_at (decode a.now) j) }
-{
-    if s[i][OUTPUT] == c[OUTPUT] {
-        return false;
-    }
-    if (s[i][STATE] & c[STATE]) == 0 {
-        return false;
-    }
-    cells_meet(a, s, c, i, j)
-}
-
-fn cells_agree(a: &[u8], s: &[[u16; CELLS]; base::ROWS], c: &[u16; CELLS], j: usize) -> bool
-    requires { RowCells (decode a.now) j s.now × CellsOf (decode a.now) j c.now }
-    ensures { result ≡ row_agrees (decode a.now) j }
-{
-    let mut i: usize = 0;
-    while i < j {
-        let met = cells_contradict(a, s, c, i, j);
-        let clash = met;
-        if clash {
-            return false;
-        }
-        i += 1;
-    }
-    true
+    Row::new(a, j, None).agrees(&[])
 }
 
 // Each row is valid, and contradicts none before it.
 fn rows_fit(a: &[u8]) -> bool
-    requires { ((decode a.now).inputs ≤ input_limit) × (length (decode a.now).rows ≤ row_limit) }
-    ensures { result ≡ (rows_valid (decode a.now) && rows_agree (decode a.now)) }
+    requires { length (decode a.now).rows ≤ row_limit }
+    ensures { let t = decode a.now in result ≡ (rows_valid t && rows_agree t) }
 {
     let m = table::rows(a);
-    let mut s = [[0u16; CELLS]; base::ROWS];
-    let mut j: usize = 0;
-    while j < m {
-        let c = cells_in(a, j);
-        if !row_valid(a, &c, j) {
+    let mut read = [Cells::NONE; base::ROWS];
+    for j in 0..m {
+        read[j] = Cells::read(a, j);
+        let row = Row::new(a, j, read.get(j));
+        if !row.is_valid() || !row.agrees(&read[..j]) {
             return false;
         }
-        if !cells_agree(a, &s, &c, j) {
-            return false;
-        }
-        s[j] = c;
-        j += 1;
     }
     true
 }
 
+#[tactic(auto, unfolding(crate::specs::Tests::within))]
 fn is_within(m: usize, limit: usize) -> bool
     ensures { result ≡ within m limit }
 {
-    (1 <= m) & (m <= limit)
+    (1..=limit).contains(&m)
 }
 
+#[tactic(auto, unfolding(crate::specs::Tests::head_valid, value::specs::Value::same_value, value::specs::Value::rank_of))]
 fn head_valid(a: &[u8]) -> bool
     ensures { result ≡ head_valid (decode a.now) }
 {
-    let inputs = is_within(table::inputs(a), base::INPUTS);
-    let rows = is_within(table::rows(a), base::ROWS);
-    let name = text::name_fits(table::name_in(a));
-    inputs & (rows & (name & (table::sequential(a) | value::same(table::start(a), Ternary::X))))
+    is_within(table::inputs(a), base::INPUTS)
+        && is_within(table::rows(a), base::ROWS)
+        && text::name_fits(table::name_in(a))
+        && (table::sequential(a) || table::start(a) == Ternary::X)
 }
 
+#[tactic(auto, using(crate::proofs::Exact::head_rows), unfolding(crate::specs::Tests::valid))]
 fn is_valid(a: &[u8]) -> bool
     ensures { result ≡ valid (decode a.now) }
 {
-    if !head_valid(a) {
-        return false;
-    }
-    rows_fit(a)
+    head_valid(a) && rows_fit(a)
 }
 
 // Reading some text could have given this area.
+#[tactic(auto, unfolding(crate::specs::Tests::well_formed))]
 pub fn well_formed(a: &[u8]) -> bool
     ensures { result ≡ well_formed a.now }
 {
-    if a.len() != table::AREA {
-        return false;
-    }
-    if !canonical::is_canonical(a) {
-        return false;
-    }
-    is_valid(a)
+    a.len() == table::AREA && canonical::is_canonical(a) && is_valid(a)
 }

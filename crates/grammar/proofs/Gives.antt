@@ -2,7 +2,7 @@
 use mathlib.Core.Path.{◌≡◌, refl, sym, ap, ◌∙◌}
 use mathlib.Core.List.{List, [], ◌∷◌, ◌++◌}
 use mathlib.Core.Bool.{Bool, true, false, not, cond, ◌&&◌}
-use mathlib.Core.Option.{Option, none, some}
+use Rattle.std.specs.Prelude.{Option, None, Some}
 use Prim.Native.Nat.{ℕ, zero, suc, ◌+◌, ◌≤◌}
 use native.Mathlib.Omega.{arith}
 use lib.Dec.{leb}
@@ -96,7 +96,7 @@ field_fits Q f h = saying_fits Q f _ h
 column_says : (edge : Bool) (w : Written) → Says (λ s. may_stand edge s ≡ true) (column_of edge w)
 column_says edge (symbol s) = go (may_stand edge s) refl
   where
-    go : (b : Bool) → may_stand edge s ≡ b → Says (λ s. may_stand edge s ≡ true) (cond b (some s) none)
+    go : (b : Bool) → may_stand edge s ≡ b → Says (λ s. may_stand edge s ≡ true) (cond b (Some s) None)
     go true e = e
     go false e = tt
 column_says edge dash = tt
@@ -123,12 +123,12 @@ unfolding output_byte
 output_says sequential (symbol s) = go (level_in s)
   where
     go : (o : Option Level) → Says (λ o. sequential ≡ false → o ≡ Old → ⊥) (level_out o)
-    go none = tt
-    go (some Zero) = λ c. other Out0 (λ e. omega arith)
-    go (some One) = λ c. other Out1 (λ e. omega arith)
-    go (some Unknown) = λ c. other Outx (λ e. omega arith)
-    go (some Binary) = tt
-    go (some Any) = tt
+    go None = tt
+    go (Some Zero) = λ c. other Out0 (λ e. omega arith)
+    go (Some One) = λ c. other Out1 (λ e. omega arith)
+    go (Some Unknown) = λ c. other Outx (λ e. omega arith)
+    go (Some Binary) = tt
+    go (Some Any) = tt
 output_says false dash = tt
 output_says true dash = λ c. clash c
 

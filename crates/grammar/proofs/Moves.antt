@@ -3,7 +3,7 @@
 use mathlib.Core.Path.{◌≡◌, refl, sym, ap, ◌∙◌}
 use mathlib.Core.List.{List, [], ◌∷◌, ◌++◌}
 use mathlib.Core.Bool.{Bool, true, false, not, cond, ◌&&◌}
-use mathlib.Core.Option.{Option, none, some}
+use Rattle.std.specs.Prelude.{Option, None, Some}
 use Prim.Native.Nat.{ℕ, zero, suc, pred, ◌+◌, ◌-◌, ◌≤◌, ◌<◌}
 use native.Mathlib.Omega.{arith}
 use borrow.Author.Tests.{leb-true}
@@ -87,8 +87,8 @@ module _ {A : Type 0} where
 
   needs : (o : Option A) (c p : ℕ) → Moves 0 (need o c p)
   unfolding need
-  needs none c p = refuses c p
-  needs (some a) c p = gives a
+  needs None c p = refuses c p
+  needs (Some a) c p = gives a
 
   ifs : (b : Bool) {m l : Reader A} → Moves 0 m → Moves 0 l → Moves 0 (if b m l)
   unfolding if
@@ -99,8 +99,8 @@ module _ {A : Type 0} where
   saids f = record { moved = go }
     where
       by : (o : Option A) (k b : ℕ) (l : List ℕ) → Moved 0 k (b ∷ l) (said_by o k b l)
-      by none k b l = tt
-      by (some a) k b l = weaker (one_on k b l)
+      by None k b l = tt
+      by (Some a) k b l = weaker (one_on k b l)
 
       go : (k : ℕ) (s : List ℕ) → Moved 0 k s (said f k s)
       go k [] = tt

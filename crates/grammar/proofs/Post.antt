@@ -2,7 +2,7 @@
 use mathlib.Core.Path.{◌≡◌, refl}
 use mathlib.Core.List.{List}
 use mathlib.Core.Bool.{Bool, true, false}
-use mathlib.Core.Option.{Option, none, some}
+use Rattle.std.specs.Prelude.{Option, None, Some}
 use Prim.Native.Nat.{ℕ}
 use Rattle.text.specs.Reader.{Result, got, refused, Reader, bind, ◌>>=◌, give, refuse, if, fault, check, need}
 
@@ -11,8 +11,8 @@ Post P (got a k s) = P a
 Post P (refused c p) = Unit {0}
 
 abbrev pub Says : {A : Type 0} → (A → Type 0) → Option A → Type 0
-Says P none = Unit {0}
-Says P (some a) = P a
+Says P None = Unit {0}
+Says P (Some a) = P a
 
 -- every value of the reader has the property
 pub record Gives {A : Type 0} (P : A → Type 0) (m : Reader A) : Type 0 where
@@ -58,5 +58,5 @@ module _ {B : Type 0} {Q : B → Type 0} where
 
   pub needed : (o : Option B) (c p : ℕ) → Says Q o → Gives Q (need o c p)
   unfolding need
-  needed none c p q = record { post = λ k s. tt }
-  needed (some a) c p q = record { post = λ k s. q }
+  needed None c p q = record { post = λ k s. tt }
+  needed (Some a) c p q = record { post = λ k s. q }

@@ -2,7 +2,7 @@
 use mathlib.Core.Path.{◌≡◌, refl, sym, ◌∙◌}
 use mathlib.Core.List.{List, [], ◌∷◌, ◌++◌, append-nil, append_assoc}
 use mathlib.Core.Bool.{Bool, true, false, not, ◌&&◌, ◌||◌}
-use mathlib.Core.Option.{Option, some}
+use Rattle.std.specs.Prelude.{Option, Some}
 use mathlib.Core.Logic.{⊎_elim}
 use Prim.Native.Nat.{ℕ, zero, suc, ◌+◌, ◌*◌, ◌≤◌, ◌<◌}
 use native.Mathlib.Omega.{arith}
@@ -80,13 +80,13 @@ symbol_read Positive k r = record { skipped = refl; no_colon = refl; a_row = ref
 symbol_read Negative k r = record { skipped = refl; no_colon = refl; a_row = refl; read_so = refl }
 symbol_read Every k r = record { skipped = refl; no_colon = refl; a_row = refl; read_so = refl }
 
-field_read : {A : Type 0} (f : Written → Option A) (s : Symbol) (a : A) (k : ℕ) (r : List ℕ) → f (symbol s) ≡ some a → field f k (symbol_text s ++ r) ≡ got a (along (symbol_text s) k) r
+field_read : {A : Type 0} (f : Written → Option A) (s : Symbol) (a : A) (k : ℕ) (r : List ℕ) → f (symbol s) ≡ Some a → field f k (symbol_text s ++ r) ≡ got a (along (symbol_text s) k) r
 unfolding ◌>>=◌ need saying field
 field_read f s a k r e = let q = symbol_read s k r in rw (q.skipped, q.read_so, e)
 
 -- ---- columns and rows
 
-column_some : (edge : Bool) (s : Symbol) → may_stand edge s ≡ true → column_of edge (symbol s) ≡ some s
+column_some : (edge : Bool) (s : Symbol) → may_stand edge s ≡ true → column_of edge (symbol s) ≡ Some s
 column_some edge s e = rw e
 
 columns_read : (l : List Symbol) (edge : Bool) (k : ℕ) (r : List ℕ) → Fits edge l → columns (length l) edge k (columns_text l ++ r) ≡ got l (along (columns_text l) k) r

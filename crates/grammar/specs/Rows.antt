@@ -1,6 +1,5 @@
 -- From `table` to `endtable`: symbols, columns, rows. Document 01, "Reading one primitive".
-use Rattle.std.specs.Prelude.{List, [], ◌∷◌, ◌++◌, Bool, true, false, not, cond, ◌&&◌, ◌||◌, ℕ, zero, suc, length, get_or}
-use Rattle.std.proofs.Math.Option.{Option, none, some}
+use Rattle.std.specs.Prelude.{List, [], ◌∷◌, ◌++◌, Bool, true, false, not, cond, ◌&&◌, ◌||◌, ℕ, zero, suc, length, get_or, Option, None, Some}
 use Rattle.base.specs.Search.{every}
 use Rattle.symbol.specs.declared.Level.{Level}
 use Rattle.symbol.specs.declared.Level.TheVariants.{Zero, One, Unknown, Binary, Any}
@@ -24,17 +23,17 @@ pub data Written : Type 0 where
 -- what one byte says
 abbrev pub written_of : ℕ → Option Written
 written_of b =
-    cond (is b "0") (some (symbol (Held Zero)))
-    (cond (is b "1") (some (symbol (Held One)))
-    (cond (letter b "x" "X") (some (symbol (Held Unknown)))
-    (cond (letter b "b" "B") (some (symbol (Held Binary)))
-    (cond (is b "?") (some (symbol (Held Any)))
-    (cond (letter b "r" "R") (some (symbol Rise))
-    (cond (letter b "f" "F") (some (symbol Fall))
-    (cond (letter b "p" "P") (some (symbol Positive))
-    (cond (letter b "n" "N") (some (symbol Negative))
-    (cond (is b "*") (some (symbol Every))
-    (cond (is b "-") (some dash) none))))))))))
+    cond (is b "0") (Some (symbol (Held Zero)))
+    (cond (is b "1") (Some (symbol (Held One)))
+    (cond (letter b "x" "X") (Some (symbol (Held Unknown)))
+    (cond (letter b "b" "B") (Some (symbol (Held Binary)))
+    (cond (is b "?") (Some (symbol (Held Any)))
+    (cond (letter b "r" "R") (Some (symbol Rise))
+    (cond (letter b "f" "F") (Some (symbol Fall))
+    (cond (letter b "p" "P") (Some (symbol Positive))
+    (cond (letter b "n" "N") (Some (symbol Negative))
+    (cond (is b "*") (Some (symbol Every))
+    (cond (is b "-") (Some dash) None))))))))))
 
 -- ---- what a symbol says in its field: nothing where it may not stand there
 
@@ -43,36 +42,36 @@ abbrev pub may_stand : Bool → Symbol → Bool
 may_stand edge s = possible s && (edge || not (is_edge s))
 
 abbrev pub column_of : Bool → Written → Option Symbol
-column_of edge (symbol s) = cond (may_stand edge s) (some s) none
-column_of edge dash = none
+column_of edge (symbol s) = cond (may_stand edge s) (Some s) None
+column_of edge dash = None
 
 abbrev pub level_in : Symbol → Option Level
-level_in (Held l) = some l
-level_in (Edge v w) = none
-level_in Rise = none
-level_in Fall = none
-level_in Positive = none
-level_in Negative = none
-level_in Every = none
+level_in (Held l) = Some l
+level_in (Edge v w) = None
+level_in Rise = None
+level_in Fall = None
+level_in Positive = None
+level_in Negative = None
+level_in Every = None
 
 -- as the state, and inside a pair
 abbrev pub state_of : Written → Option Level
 state_of (symbol s) = level_in s
-state_of dash = none
+state_of dash = None
 
 abbrev pub level_out : Option Level → Option Output
-level_out none = none
-level_out (some Zero) = some Out0
-level_out (some One) = some Out1
-level_out (some Unknown) = some Outx
-level_out (some Binary) = none
-level_out (some Any) = none
+level_out None = None
+level_out (Some Zero) = Some Out0
+level_out (Some One) = Some Out1
+level_out (Some Unknown) = Some Outx
+level_out (Some Binary) = None
+level_out (Some Any) = None
 
 -- as the output: `-` in a sequential table
 abbrev pub output_said : Bool → Written → Option Output
 output_said sequential (symbol s) = level_out (level_in s)
-output_said false dash = none
-output_said true dash = some Old
+output_said false dash = None
+output_said true dash = Some Old
 
 -- ---- reading them
 

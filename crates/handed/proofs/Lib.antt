@@ -1,2 +1,3 @@
 pub mod Thirds
 pub mod Fit
+mod Values

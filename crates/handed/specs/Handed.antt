@@ -9,12 +9,17 @@ use Rattle.verdict.specs.Meaning.{before, meant}
 use Rattle.verdict.specs.declared.Witness.{Witness}
 use Rattle.verdict.specs.declared.Finding.{Finding}
 use Rattle.verdict.specs.declared.Finding.TheVariants.{Independent, Dependent}
+use Rattle.handed.specs.declared.Verdict.{Verdict}
 
 pub record Handed : Type 0 where
   pub name : List ℕ
   pub inputs : ℕ
   pub rows : ℕ
   pub finding : Finding
+
+-- the code's verdict, its name as bytes
+abbrev pub handed : Verdict → Handed
+handed v = record { name = v.name.now; inputs = v.inputs; rows = v.rows; finding = v.finding }
 
 -- the verdict that is meant
 abbrev pub verdict_of : Handed → words.Verdict

@@ -15,9 +15,8 @@ use Rattle.orders.proofs.Digits.{digit_is, put_lt}
 use Rattle.memo.specs.Rows.{cells, all_rows}
 use Rattle.memo.specs.Pair.{others_of, first_then, second_then}
 use Rattle.memo.proofs.Others.{digit_same, digit_other, others_put}
-use Rattle.exchange.specs.Lanes as exchange
 use Rattle.exchange.specs.Pairs.{PairAgrees}
-use Rattle.pair.specs.Search.{Given, weight, differs_by, differs_in, differs_at, first_at}
+use Rattle.pair.specs.Search.{weight, differs_by, differs_in, differs_at, first_at}
 use Rattle.judge.specs.Search.{pair_first}
 use Rattle.judge.proofs.Findings.{pair_first_lem}
 
@@ -25,7 +24,8 @@ none_differs : (t : Table) (i j r : ℕ) → PairAgrees t i j → differs_at t i
 unfolding differs_at differs_in differs_by
 none_differs t i j r A =
     rw (eq-eqb _ _
-    ((A.at (r / 27)).same (r / 27 / weight t i % 3) (r / 27 / weight t j % 3) (r % 27 / 9) (r % 27 / 3 % 3) (r % 27 % 3) (omega arith) (omega arith) (omega arith) (omega arith) (omega arith)))
+    ((A.at (r / 27)).same (r / 27 / weight t i % 3) (r / 27 / weight t j % 3) (r % 27 / 9) (r % 27 / 3 % 3) (r % 27 % 3) (omega arith) (omega arith)
+    (omega arith) (omega arith) (omega arith)))
 
 none_first : (t : Table) (i j : ℕ) → PairAgrees t i j → first_at t i j ≡ candidates t.inputs
 unfolding first_at
@@ -77,8 +77,10 @@ module _ (n i j : ℕ) (lt : i < j) (lj : j < n) (v a b : ℕ) (la : a < 3) (lb 
       let q : (eqb j i || eqb j j) ≡ true = rw (eq-eqb j j refl) (or-true (eqb j i)) in
       others_put s all i j i n _ a p la (omega arith) ∙ others_put s all i j j n _ b q lb lj ∙ others_low s all i j n v
 
-no_difference : (t : Table) (i j : ℕ) → i < j → j < t.inputs → candidates t.inputs ≤ first_at t i j → (v a b x y o : ℕ) → a < 3 → b < 3 → x < 3 → y < 3 → o < 3 →
-    first_then t (cells t) i j (others_of (cells t) (all_rows t) i j t.inputs v) a b x y o ≡ second_then t (cells t) i j (others_of (cells t) (all_rows t) i j t.inputs v) a b x y o
+no_difference : (t : Table) (i j : ℕ) → i < j → j < t.inputs → candidates t.inputs ≤ first_at t i j → (v a b x y o : ℕ) → a < 3 → b < 3 → x < 3 →
+    y < 3 → o < 3 →
+    first_then t (cells t) i j (others_of (cells t) (all_rows t) i j t.inputs v) a b x y o
+    ≡ second_then t (cells t) i j (others_of (cells t) (all_rows t) i j t.inputs v) a b x y o
 unfolding first_at differs_at differs_in differs_by
 no_difference t i j lt lj e v a b x y o la lb lx ly lo =
     let n : ℕ = t.inputs in
@@ -91,20 +93,17 @@ no_difference t i j lt lj e v a b x y o la lb lx ly lo =
     let ex : r % 27 / 9 ≡ x = omega arith in
     let ey : r % 27 / 3 % 3 ≡ y = omega arith in
     let eo : r % 27 % 3 ≡ o = omega arith in
-    eqb-true _ _ (not-false _ (rw (ew, ex, ey, eo, first_digit n i j lt lj v a b la lb, second_digit n i j lt lj v a b la lb, others_number n i j lt lj v a b la lb (cells t) (all_rows t)) at f))
+    eqb-true _ _ (not-false _ (rw (
+      ew,
+      ex,
+      ey,
+      eo,
+      first_digit n i j lt lj v a b la lb,
+      second_digit n i j lt lj v a b la lb,
+      others_number n i j lt lj v a b la lb (cells t) (all_rows t),
+    ) at f))
 
 pub agrees_by : (t : Table) (i j : ℕ) → i < j → j < t.inputs → candidates t.inputs ≤ pair_first t i j → PairAgrees t i j
 agrees_by t i j lt lj e = record {
   at = λ v. record { same = λ a b x y o la lb lx ly lo. no_difference t i j lt lj (rw (pair_first_lem t i j lt lj) at e) v a b x y o la lb lx ly lo };
-}
-
--- what the search of a pair is given is what the lanes are given
-pub lanes_given : (t : Table) (s : List (List ℕ)) (all : ℕ) (outs : List ℕ) (n m i j : ℕ) → Given t s all outs n m → i < n → j < n → exchange.Given t s outs n i j
-lanes_given t s all outs n m i j G a b = record {
-  small = G.known.small;
-  cells_are = G.known.cells_are;
-  outputs = G.known.outputs_are;
-  inputs_are = G.inputs_are;
-  first = a;
-  second = b;
 }

@@ -7,6 +7,7 @@ use native.Mathlib.Numerals.{add-one}
 use native.Mathlib.Omega.{arith}
 use lib.Dec.{ltb}
 use borrow.Author.Tests.{ltb-true, ltb-false, lt-ltb, le-ltb, not-true, not-false}
+use borrow.Author.Count.{below_more}
 use Rattle.base.specs.Limits.{input_limit}
 use Rattle.base.specs.Search.{first}
 use Rattle.base.proofs.Bools.{both, clash, lt_or_ge}
@@ -17,12 +18,13 @@ use Rattle.orders.specs.Verdict.{candidates, first_now, second_now, first_output
 use Rattle.orders.proofs.Places.{vector_put, every_family}
 use Rattle.orders.proofs.Candidates.{value_rank, same_of, of_same, vector_number}
 use Rattle.orders.proofs.Answers.{judged_iff}
-use Rattle.orders.proofs.Digits.{power_le}
 use Rattle.table.specs.Table.{Table}
 use Rattle.step.specs.Step.{step_of}
 use Rattle.step.proofs.Laws.{laws}
 use Rattle.memo.specs.Rows.{Small}
-use Rattle.pair.specs.Search.{differs_at, first_at}
+use Rattle.std.specs.Prelude.{Some, None}
+use Rattle.pair.proofs.Options.{some_is, none_is}
+use Rattle.pair.specs.Search.{found, differs_at, first_at}
 use Rattle.verdict.specs.declared.Witness.{Witness}
 use Rattle.verdict.specs.declared.Finding.TheVariants.{Independent, Dependent}
 use Rattle.judge.specs.Search.{pair_first, pair_differs, pairs, first_pair, witness_in, finding_in}
@@ -62,17 +64,12 @@ past_pair t i j a = rw (le-ltb j t.inputs a) (go (ltb i j))
     go true = refl
     go false = refl
 
--- ---- how many candidates there are, as the code works it out
-
-pub vectors_low : (n p : ℕ) → n ≤ input_limit → p ≡ 3 ^ n → p ≤ 3 ^ input_limit
-vectors_low n p h e = rw e (power_le n input_limit h)
-
-pub counted : (t : Table) (n p r : ℕ) → p ≡ 3 ^ n → n ≡ t.inputs → r < p * 27 → r < candidates t.inputs
-counted t n p r e en h = rw (← en, ← e) h
-
-pub differs_not : (t : Table) (i j n p r : ℕ) → p ≡ 3 ^ n → n ≡ t.inputs → r ≡ pair_first t i j → p * 27 ≤ r → pair_differs t i j ≡ false
+nothing : (t : Table) (i j : ℕ) → candidates t.inputs ≤ pair_first t i j → pair_differs t i j ≡ false
 unfolding pair_differs
-differs_not t i j n p r e en er h = rw (← er) (le-ltb r (candidates t.inputs) (rw (← en, ← e) h))
+nothing t i j h = le-ltb (pair_first t i j) (candidates t.inputs) h
+
+pub differs_not : (t : Table) (i j : ℕ) → None ≡ found (candidates t.inputs) (pair_first t i j) → pair_differs t i j ≡ false
+differs_not t i j e = nothing t i j (none_is (candidates t.inputs) (pair_first t i j) e)
 
 -- ---- the pairs in turn, as the code takes them
 
@@ -80,17 +77,42 @@ module _ (t : Table) where
   abbrev tried : ℕ → Bool
   tried p = pair_differs t (p / input_limit) (p % input_limit)
 
-  pub found_at : (p r : ℕ) (w : Witness) → p < pairs → ((k : ℕ) → k < p → tried k ≡ false) → r ≡ pair_first t (p / input_limit) (p % input_limit) → r < candidates t.inputs →
-      w ≡ witness_in t (p / input_limit) (p % input_limit) r → Dependent w ≡ finding_in t
+  pub found_pair : (i j r : ℕ) (w : Witness) → i < input_limit → j < input_limit → ((k : ℕ) → k < i * input_limit + j → tried k ≡ false) →
+      Some r ≡ found (candidates t.inputs) (pair_first t i j) → w ≡ witness_in t i j r → Dependent w ≡ finding_in t
   unfolding finding_in first_pair pair_differs
-  found_at p r w h below er lr ew =
-      let here : tried p ≡ true = lt-ltb (pair_first t (p / input_limit) (p % input_limit)) (candidates t.inputs) (rw er at lr) in
+  found_pair i j r w li lj below er ew =
+      let p : ℕ = i * input_limit + j in
+      let h : p < pairs = omega arith in
+      let ei : p / input_limit ≡ i = omega arith in
+      let ej : p % input_limit ≡ j = omega arith in
+      let s = some_is (candidates t.inputs) (pair_first t i j) r er in
+      let here : tried p ≡ true = rw (ei, ej) (lt-ltb (pair_first t i j) (candidates t.inputs) s.1) in
       let e : first pairs tried ≡ p = first_found tried pairs p h below here in
-      rw (e, lt-ltb p pairs h, ← er) (ap Dependent ew)
+      rw (e, lt-ltb p pairs h, ei, ej, ← s.0) (ap Dependent ew)
+
+  -- no number up to i is the second of a pair whose first is i, and none from the number of inputs on
+  pub low_pairs : (i : ℕ) → ((k : ℕ) → k < i * input_limit → tried k ≡ false) → (k : ℕ) → k < i * input_limit + (i + 1) → i < input_limit → tried k ≡ false
+  low_pairs i h k lk li = ⊎_elim (h k)
+      (λ g. nothing t (k / input_limit) (k % input_limit) (omega (arith, no_pair t (k / input_limit) (k % input_limit) (omega arith))))
+      (lt_or_ge k (i * input_limit))
+
+  pub next_pair : (i j : ℕ) → j < input_limit → ((k : ℕ) → k < i * input_limit + j → tried k ≡ false) → pair_differs t i j ≡ false →
+      (k : ℕ) → k < i * input_limit + (j + 1) → tried k ≡ false
+  next_pair i j lj h e k lk =
+      let ei : (i * input_limit + j) / input_limit ≡ i = omega arith in
+      let ej : (i * input_limit + j) % input_limit ≡ j = omega arith in
+      below_more (λ (q : ℕ). tried q ≡ false) (i * input_limit + j) h (rw (ei, ej) e) k (omega arith)
+
+  pub high_pairs : (i j : ℕ) → t.inputs ≤ j → ((k : ℕ) → k < i * input_limit + j → tried k ≡ false) → (k : ℕ) → k < (i + 1) * input_limit → tried k ≡ false
+  high_pairs i j lj h k lk = ⊎_elim (h k)
+      (λ g. nothing t (k / input_limit) (k % input_limit) (omega (arith, past_pair t (k / input_limit) (k % input_limit) (omega arith))))
+      (lt_or_ge k (i * input_limit + j))
 
   past : (k : ℕ) → t.inputs ≤ k / input_limit → tried k ≡ false
-  unfolding pair_differs
-  past k h = rw (⊎_elim (λ l. past_pair t (k / input_limit) (k % input_limit) (omega arith)) (λ l. no_pair t (k / input_limit) (k % input_limit) l) (lt_or_ge (k / input_limit) (k % input_limit))) (le-ltb (candidates t.inputs) (candidates t.inputs) (omega arith))
+  past k h = nothing t (k / input_limit) (k % input_limit) (⊎_elim
+      (λ l. omega (arith, past_pair t (k / input_limit) (k % input_limit) (omega arith)))
+      (λ l. omega (arith, no_pair t (k / input_limit) (k % input_limit) l))
+      (lt_or_ge (k / input_limit) (k % input_limit)))
 
   pub none_found : (p : ℕ) → input_limit * t.inputs ≤ p → ((k : ℕ) → k < p → tried k ≡ false) → Independent ≡ finding_in t
   unfolding finding_in first_pair
@@ -120,7 +142,8 @@ module _ (t : Table) (small : Small t) where
     differs_of s ls e = record {
       admitted = (vector_number n (s / 27), vector_put (suc j) (second_now s) (vector_put (suc i) (first_now s) (vector_number n (s / 27))));
       differ = λ q.
-          let p : not (same_value (first_output n phi (suc i) (suc j) s) (second_output n phi (suc i) (suc j) s)) ≡ true = sym (differs_is t small i j (omega arith) lj apart s) ∙ e in
+          let p : not (same_value (first_output n phi (suc i) (suc j) s) (second_output n phi (suc i) (suc j) s)) ≡ true =
+          sym (differs_is t small i j (omega arith) lj apart s) ∙ e in
           clash (sym (same_of _ _ q) ∙ not-true _ p);
     }
 
@@ -168,9 +191,11 @@ module _ (t : Table) (small : Small t) where
         before (suc a) zero s la lt ab bn ls d = absurd (omega arith)
         before (suc a) (suc b) s la lt ab bn ls d = earlier p a b none (omega arith) (omega arith) (omega arith) s ls d
 
-        between : (b s : ℕ) → suc (p / input_limit) < b → b < suc (p % input_limit) → s < candidates n → Disagrees n (Every n) phi (suc (p / input_limit)) b s → ⊥
+        between : (b s : ℕ) → suc (p / input_limit) < b → b < suc (p % input_limit) → s < candidates n →
+            Disagrees n (Every n) phi (suc (p / input_limit)) b s → ⊥
         between zero s ib bj ls d = absurd (omega arith)
-        between (suc b) s ib bj ls d = earlier p (p / input_limit) b none (omega arith) (omega (arith, (told t (p / input_limit) (p % input_limit) here).last)) (omega arith) s ls d
+        between (suc b) s ib bj ls d =
+            earlier p (p / input_limit) b none (omega arith) (omega (arith, (told t (p / input_limit) (p % input_limit) here).last)) (omega arith) s ls d
 
     none_at : ((q : ℕ) → q < pairs → test q ≡ false) → (i j r : ℕ) → 1 ≤ i → i < j → j ≤ n → r < candidates n → Disagrees n (Every n) phi i j r → ⊥
     none_at none zero j r a b c h = absurd (omega arith)
@@ -195,10 +220,14 @@ module _ (t : Table) (small : Small t) where
     finding_right = go (ltb (first pairs test) pairs) refl
       where
         go : (b : Bool) → ltb (first pairs test) pairs ≡ b →
-            RightFinding n phi (cond b (Dependent (witness_in t (first pairs test / input_limit) (first pairs test % input_limit) (pair_first t (first pairs test / input_limit) (first pairs test % input_limit)))) Independent)
+            RightFinding n phi (cond b (Dependent
+            (witness_in t (first pairs test / input_limit) (first pairs test % input_limit)
+            (pair_first t (first pairs test / input_limit) (first pairs test % input_limit)))) Independent)
         go true e =
             let p : ℕ = first pairs test in
             let here : test p ≡ true = first_holds test pairs (ltb-true p pairs e) in
             let k : Told t (p / input_limit) (p % input_limit) = told t (p / input_limit) (p % input_limit) here in
-            witness_right (p / input_limit) (p % input_limit) (pair_first t (p / input_limit) (p % input_limit)) k.rising k.last (first_at_lem p (first_below test pairs) here)
-        go false e = (judged_iff (laws t n) (every_family n)).1 (none_at (λ q h. first_below test pairs q (omega (arith, ltb-false (first pairs test) pairs e))))
+            witness_right (p / input_limit) (p % input_limit) (pair_first t (p / input_limit) (p % input_limit)) k.rising k.last
+            (first_at_lem p (first_below test pairs) here)
+        go false e = (judged_iff (laws t n) (every_family n)).1
+            (none_at (λ q h. first_below test pairs q (omega (arith, ltb-false (first pairs test) pairs e))))

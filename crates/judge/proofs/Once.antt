@@ -13,11 +13,11 @@ use Rattle.orders.proofs.Places.{every_family}
 use Rattle.orders.proofs.Answers.{same_first, first_dependent}
 use Rattle.step.specs.Step.{step_of}
 use Rattle.step.proofs.Laws.{laws}
+use Rattle.std.specs.Prelude.{Result, Ok, Err}
+use Rattle.refusal.specs.declared.Refusal.{Refusal}
 use Rattle.verdict.specs.declared.Witness.{Witness}
 use Rattle.verdict.specs.declared.Finding.{Finding}
 use Rattle.verdict.specs.declared.Finding.TheVariants.{Independent, Dependent}
-use Rattle.judge.specs.declared.Judged.{Judged}
-use Rattle.judge.specs.declared.Judged.TheVariants.{Found, Refused}
 use Rattle.judge.specs.Judge.{Witnesses, RightFinding}
 use Rattle.judge.specs.Answer.{Right}
 
@@ -59,11 +59,12 @@ module _ (n : ℕ) (phi : order.Step) (L : order.Laws n phi) where
   -- the finding is Independent exactly where all full orders agree for every pair of vectors and every old output
   pub independent_exactly : (f : Finding) → RightFinding n phi f → (f ≡ Independent) ↔ order.Independent n (order.Every n) phi
   independent_exactly Independent p = (λ _. p, λ _. refl)
-  independent_exactly (Dependent w) p = (λ e. absurd (let z : ◌≡◌ {A = ℕ} 0 1 = cc in omega arith), λ ind. absurd (first_dependent L (every_family n) p.first ind))
+  independent_exactly (Dependent w) p =
+      (λ e. absurd (let z : ◌≡◌ {A = ℕ} 0 1 = cc in omega arith), λ ind. absurd (first_dependent L (every_family n) p.first ind))
 
 -- no two answers satisfy the promise
-pub one_answer : (a : List ℕ) (p q : Judged) → Right a p → Right a q → p ≡ q
-one_answer a (Found f) (Found g) p q = ap Found (one_finding (decode a).inputs (step_of (decode a)) (laws (decode a) (decode a).inputs) f g p.1 q.1)
-one_answer a (Found f) (Refused number place) p q = clash (sym p.0 ∙ q.0)
-one_answer a (Refused number place) (Found g) p q = clash (sym q.0 ∙ p.0)
-one_answer a (Refused number place) (Refused other spot) p q = rw (p.1, p.2, q.1, q.2)
+pub one_answer : (a : List ℕ) (p q : Result Finding Refusal) → Right a p → Right a q → p ≡ q
+one_answer a (Ok f) (Ok g) p q = ap Ok (one_finding (decode a).inputs (step_of (decode a)) (laws (decode a) (decode a).inputs) f g p.1 q.1)
+one_answer a (Ok f) (Err r) p q = clash (sym p.0 ∙ q.0)
+one_answer a (Err r) (Ok g) p q = clash (sym q.0 ∙ p.0)
+one_answer a (Err r) (Err s) p q = ap Err (p.1 ∙ sym q.1)

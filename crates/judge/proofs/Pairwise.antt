@@ -90,7 +90,8 @@ unfolding yes_in
 yes_comm t i j = rw (or_comm (pair_differs t i j) (pair_differs t j i))
 
 -- it stands in an earlier row
-pub yes_before : (t : Table) (i j : ℕ) (l : List (List Bool)) (b : Bool) → j < i → i < input_limit → ((k : ℕ) → k < i → get_or l k [] ≡ listed (yes_in t k) input_limit) →
+pub yes_before : (t : Table) (i j : ℕ) (l : List (List Bool)) (b : Bool) → j < i → i < input_limit →
+    ((k : ℕ) → k < i → get_or l k [] ≡ listed (yes_in t k) input_limit) →
     b ≡ get_or (get_or l j []) i false → b ≡ yes_in t i j
 yes_before t i j l b lj li w e = e ∙ rw (w j lj) (listed_at (yes_in t j) input_limit i false li ∙ yes_comm t j i)
 
@@ -102,9 +103,11 @@ yes_nowhere t i j l e = rw (no_pair t j i l, e, le-ltb (candidates t.inputs) (ca
 -- the test of a pair tells it
 pub yes_told : (t : Table) (i j : ℕ) (r : Bool) → i < j → j < t.inputs → Tells t i j r → r ≡ yes_in t i j
 unfolding yes_in pair_differs
-yes_told t i j r lt lj w = rw (no_pair t j i (omega arith), le-ltb (candidates t.inputs) (candidates t.inputs) (omega arith)) (go (lt_or_ge (pair_first t i j) (candidates t.inputs)) r refl)
+yes_told t i j r lt lj w = rw (no_pair t j i (omega arith), le-ltb (candidates t.inputs) (candidates t.inputs) (omega arith))
+    (go (lt_or_ge (pair_first t i j) (candidates t.inputs)) r refl)
   where
-    go : (pair_first t i j < candidates t.inputs) ⊎ (candidates t.inputs ≤ pair_first t i j) → (b : Bool) → r ≡ b → b ≡ not (ltb (pair_first t i j) (candidates t.inputs) || false)
+    go : (pair_first t i j < candidates t.inputs) ⊎ (candidates t.inputs ≤ pair_first t i j) → (b : Bool) → r ≡ b →
+        b ≡ not (ltb (pair_first t i j) (candidates t.inputs) || false)
     go (inl h) true e = absurd (omega (arith, h, agreed t i j lt lj (w.sound e)))
     go (inl h) false e = rw (lt-ltb (pair_first t i j) (candidates t.inputs) h)
     go (inr h) b e = rw (le-ltb (pair_first t i j) (candidates t.inputs) h) (sym e ∙ w.whole (agrees_by t i j lt lj h))

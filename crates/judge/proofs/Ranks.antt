@@ -33,6 +33,7 @@ module _ (t : Table) (small : Small t) (i j : ℕ) (li : i < t.inputs) (lj : j <
   eo = omega arith
 
   -- a candidate differs exactly where the outputs of the two orders do
-  pub differs_is : differs_at t i j r ≡ not (same_value (first_output t.inputs (step_of t) (suc i) (suc j) r) (second_output t.inputs (step_of t) (suc i) (suc j) r))
+  pub differs_is : differs_at t i j r
+      ≡ not (same_value (first_output t.inputs (step_of t) (suc i) (suc j) r) (second_output t.inputs (step_of t) (suc i) (suc j) r))
   unfolding differs_at differs_in differs_by same_value
   differs_is = rw (ex, ey, eo, first_is t small i j r li lj ne, second_is t small i j r li lj ne)

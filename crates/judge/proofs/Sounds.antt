@@ -15,7 +15,8 @@ module _ {n : ℕ} {phi : Step} (L : Laws n phi) where
   witness_sound : (w : Witness) → Witnesses n phi w → Sound n w
   witness_sound w p =
       let f : First n (Every n) phi w.first w.second p.candidate = p.first in
-      let c = both_change n phi (Every n) w.first w.second L (λ e. omega (arith, f.rising)) p.candidate f.one (omega (arith, f.rising, f.last)) (omega (arith, f.one, f.rising)) f.last f.here in
+      let c = both_change n phi (Every n) w.first w.second L (λ e. omega (arith, f.rising)) p.candidate f.one (omega (arith, f.rising, f.last))
+      (omega (arith, f.one, f.rising)) f.last f.here in
       record {
         from = f.one;
         apart = f.rising;

@@ -36,10 +36,12 @@ module _ (n : ℕ) (phi : Step) where
   unfolding disagree
   disagree_iff i j = (
     λ e. (pair_iff n phi (Every n) i j (every_family n)).1 (λ r h d. d.differ (of_same _ _ (not-false _ (some_false _ (candidates n) r e h _ refl)))),
-    λ a. some_none _ (candidates n) (λ r h. none r h (same_value (first_output n phi i j r) (second_output n phi i j r)) refl ((pair_iff n phi (Every n) i j (every_family n)).0 a r h)),
+    λ a. some_none _ (candidates n)
+        (λ r h. none r h (same_value (first_output n phi i j r) (second_output n phi i j r)) refl ((pair_iff n phi (Every n) i j (every_family n)).0 a r h)),
   )
     where
-      none : (r : ℕ) → r < candidates n → (b : Bool) → same_value (first_output n phi i j r) (second_output n phi i j r) ≡ b → (Disagrees n (Every n) phi i j r → ⊥) → not (same_value (first_output n phi i j r) (second_output n phi i j r)) ≡ false
+      none : (r : ℕ) → r < candidates n → (b : Bool) → same_value (first_output n phi i j r) (second_output n phi i j r) ≡ b →
+          (Disagrees n (Every n) phi i j r → ⊥) → not (same_value (first_output n phi i j r) (second_output n phi i j r)) ≡ false
       none r h true e q = rw e
       none r h false e q = absurd (q (record {
         admitted = (vector_number n (r / 27), vector_put j (second_now r) (vector_put i (first_now r) (vector_number n (r / 27))));
@@ -67,12 +69,14 @@ first_answer : (a : List ℕ) → get_or (get_or (square_for a) 0 []) 0 false �
 unfolding square_for square_of pair_yes
 first_answer a = go (well_formed a)
   where
-    go : (b : Bool) → get_or (get_or (cond b (square_of (decode a).inputs (step_of (decode a))) (listed (λ (i : ℕ). listed (λ (j : ℕ). false) input_limit) input_limit)) 0 []) 0 false ≡ b
+    go : (b : Bool) → get_or (get_or
+        (cond b (square_of (decode a).inputs (step_of (decode a))) (listed (λ (i : ℕ). listed (λ (j : ℕ). false) input_limit) input_limit)) 0 []) 0 false ≡ b
     go true =
         rw (listed_at (λ (i : ℕ). listed (pair_yes (decode a).inputs (step_of (decode a)) i) input_limit) input_limit 0 [] (omega arith))
         (listed_at (pair_yes (decode a).inputs (step_of (decode a)) 0) input_limit 0 false (omega arith))
     go false =
-        rw (listed_at (λ (i : ℕ). listed (λ (j : ℕ). false) input_limit) input_limit 0 [] (omega arith)) (listed_at (λ (j : ℕ). false) input_limit 0 false (omega arith))
+        rw (listed_at (λ (i : ℕ). listed (λ (j : ℕ). false) input_limit) input_limit 0 [] (omega arith))
+        (listed_at (λ (j : ℕ). false) input_limit 0 false (omega arith))
 
 pub formed_by : (a : List ℕ) (s : List (List Bool)) (b : Bool) → s ≡ square_for a → get_or (get_or s 0 []) 0 false ≡ b → well_formed a ≡ b
 formed_by a s b e h = sym (first_answer a) ∙ rw (← e) h

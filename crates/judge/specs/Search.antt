@@ -41,7 +41,8 @@ witness_in t i j r = record {
 unfoldable pub finding_in : Table → Finding
 finding_in t =
     cond (ltb (first_pair t) pairs)
-    (Dependent (witness_in t (first_pair t / input_limit) (first_pair t % input_limit) (pair_first t (first_pair t / input_limit) (first_pair t % input_limit))))
+    (Dependent (witness_in t (first_pair t / input_limit) (first_pair t % input_limit)
+    (pair_first t (first_pair t / input_limit) (first_pair t % input_limit))))
     Independent
 
 unfoldable pub yes_in : Table → ℕ → ℕ → Bool

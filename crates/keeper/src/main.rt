@@ -3,138 +3,94 @@
 // keeper LIBRARY BOOK: leaves in the book one entry for each primitive of the library, and goes on where an earlier run was cut.
 mod places;
 
-use book::Opened;
-use disk::Loaded;
-use keeping::Counted;
-use run::Ran;
-use std::fs::File;
-use std::io::{Seek, SeekFrom};
+use disk::Cut;
+use refusal::Refusal;
+use run::{Run, Stopped};
+use std::io::{Error, Seek, SeekFrom};
 use std::rt::Env;
 
 // The longest path that is taken.
 const WORD: usize = 4096;
 
-fn finish(rt: &HostRuntime, file: &File, path: &[u8], length: usize, stated: usize, total: usize) {
-    if length < stated {
-        if let Err(e) = places::take_away(file, length) {
-            disk::fail(rt, path, e);
-            return;
-        }
-    }
-    say::all_stand(rt, total);
+// Why a run ends before all entries stand.
+#[derive(Clone, Copy)]
+enum Stop {
+    Failed(Error),
+    Refused(Refusal),
+    // The book has more entries than the library has primitives.
+    Surplus(usize, usize),
+    Said,
 }
 
-fn keep_from(
-    rt: &HostRuntime,
-    file: &File,
-    path: &[u8],
-    text: &[u8],
-    total: usize,
-    area: &mut [u8],
-    book: &mut [u8],
-    stated: usize,
-    good: usize,
-) {
-    if good == 0 {
-        if let Err(e) = places::flush_folder(rt, path) {
-            disk::fail(rt, path, e);
-            return;
-        }
-    }
-    let r = run::go_through(rt, file, path, text, area, book, good, total);
-    match r {
-        Ran::All(length) => {
-            finish(rt, file, path, length, stated, total);
-        }
-        Ran::Stopped => {}
+impl From<Error> for Stop {
+    fn from(error: Error) -> Stop {
+        Stop::Failed(error)
     }
 }
 
-fn keep_in(
-    rt: &HostRuntime,
-    file: &File,
-    path: &[u8],
-    text: &[u8],
-    total: usize,
-    area: &mut [u8],
-    book: &mut [u8],
-    stated: usize,
-) {
-    let o = book::open_book(book, stated);
-    match o {
-        Opened::Book(g) => {
-            if total < g.entries {
-                say::surplus(rt, g.entries, total);
-                return;
-            }
-            keep_from(rt, file, path, text, total, area, book, stated, g.good);
-        }
-        Opened::Refused(number, place) => {
-            say::refusal(rt, number, place);
-        }
+impl From<Cut> for Stop {
+    fn from(cut: Cut) -> Stop {
+        Stop::Failed(cut.error)
     }
 }
 
-// One byte more than a book may have is loaded, so that a longer file is refused and not cut short.
-fn keep_file(
-    rt: &HostRuntime,
-    file: &mut File,
-    path: &[u8],
-    text: &[u8],
-    total: usize,
-    area: &mut [u8],
-) {
-    let mut book = [0u8; base::BOOK + 1];
-    let l = disk::load_from(file, &mut book);
-    match l {
-        Loaded::Bytes(stated) => {
-            keep_in(rt, file, path, text, total, area, &mut book, stated);
-        }
-        Loaded::Failed(e) => {
-            disk::fail(rt, path, e);
-        }
+impl From<Refusal> for Stop {
+    fn from(refusal: Refusal) -> Stop {
+        Stop::Refused(refusal)
     }
 }
 
-// What has no places, as a pipe, would be waited for.
-fn keep_at(rt: &HostRuntime, path: &[u8], text: &[u8], total: usize, area: &mut [u8]) {
-    match places::open_or_create(rt, path) {
-        Ok(mut file) => match file.seek(SeekFrom::Start(0)) {
-            Ok(_) => {
-                keep_file(rt, &mut file, path, text, total, area);
-            }
-            Err(e) => {
-                disk::fail(rt, path, e);
-            }
-        },
-        Err(e) => {
-            disk::fail(rt, path, e);
-        }
+impl From<Stopped> for Stop {
+    fn from(_stopped: Stopped) -> Stop {
+        Stop::Said
     }
 }
 
-// The book is opened, or made, only where the whole library can be read.
-fn keep_text(rt: &HostRuntime, text: &[u8], path: &[u8]) {
+// What a library's text needs in its book is kept or stored; how many entries stand then.
+fn keep_text(rt: &HostRuntime, text: &[u8], path: &[u8]) -> Result<usize, Stop> {
     let mut area = [0u8; table::AREA];
-    let c = keeping::count(text, &mut area);
-    match c {
-        Counted::Primitives(total) => {
-            keep_at(rt, path, text, total, &mut area);
-        }
-        Counted::Refused(number, place) => {
-            say::refusal(rt, number, place);
-        }
+    // The book is opened, or made, only where the whole library can be read.
+    let total = keeping::count(text, &mut area)?;
+    let mut file = places::open_or_create(rt, path)?;
+    // What has no places, as a pipe, would be waited for.
+    file.seek(SeekFrom::Start(0))?;
+    // One byte more than a book may have is loaded, so that a longer file is refused and not cut short.
+    let mut book = [0u8; base::BOOK + 1];
+    let stated = disk::load_from(&mut file, &mut book)?;
+    let found = book::open_book(&book, stated)?;
+    if total < found.entries {
+        return Err(Stop::Surplus(found.entries, total));
     }
+    if found.good == 0 {
+        places::flush_folder(rt, path)?;
+    }
+    let run = Run {
+        file: &file,
+        path,
+        text,
+        good: found.good,
+        total,
+    };
+    let length = run::go_through(rt, run, &mut area, &mut book)?;
+    if length < stated {
+        places::take_away(&file, length)?;
+    }
+    Ok(total)
 }
 
 // One byte more than a text may have is loaded, so that a longer one is refused as such.
 fn keep(rt: &HostRuntime, library: &[u8], path: &[u8]) {
     let mut text = [0u8; base::TEXT + 1];
-    let l = disk::load(rt, library, &mut text);
-    let Loaded::Bytes(n) = l else {
+    let Ok(n) = disk::load(rt, library, &mut text) else {
         return;
     };
-    keep_text(rt, &text[..n], path);
+    match keep_text(rt, &text[..n], path) {
+        Ok(total) => say::all_stand(rt, total),
+        Err(Stop::Failed(error)) => disk::fail(rt, path, error),
+        Err(Stop::Refused(refusal)) => say::refusal(rt, refusal),
+        Err(Stop::Surplus(entries, total)) => say::surplus(rt, entries, total),
+        Err(Stop::Said) => {}
+    }
 }
 
 fn main(rt: HostRuntime) {

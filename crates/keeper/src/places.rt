@@ -3,24 +3,17 @@ use std::fs::{File, OpenOptions};
 use std::io;
 use std::io::{Error, ErrorKind};
 
-// How many bytes of a path name its folder, the last slash among them.
-fn folder_length(path: &[u8]) -> usize {
-    let mut n = path.len();
-    while 0 < n {
-        if path[n - 1] == b'/' {
-            return n;
-        }
-        n -= 1;
-    }
-    0
+// The folder that a path names, its last slash with it; none where the path has no slash.
+fn folder_of(path: &[u8]) -> Option<&[u8]> {
+    let slash = path.iter().rposition(|b| *b == b'/')?;
+    Some(&path[..slash + 1])
 }
 
 fn open_folder(rt: &HostRuntime, path: &[u8]) -> io::Result<File> {
-    let n = folder_length(path);
-    if n == 0 {
-        return File::open(rt, ".");
+    match folder_of(path) {
+        Some(folder) => File::open(rt, disk::path_text(folder)?),
+        None => File::open(rt, "."),
     }
-    File::open(rt, disk::path_text(text::part(path, 0, n))?)
 }
 
 // A file that was just made survives a cut once its folder is flushed.

@@ -1,182 +1,133 @@
 #![tactic(auto)]
 
-ghost use Rattle.std.specs.Prelude.{◌≡◌, ℕ, suc, ◌-◌, ◌/◌, ◌%◌, ◌<◌, ◌≤◌, length};
-ghost use Rattle.value.specs.Value.{rank_of, value_of};
-ghost use Rattle.symbol.specs.Match.{result_of};
+ghost use Rattle.std.specs.Prelude.{◌≡◌, suc, ◌-◌, ◌<◌, ◌≤◌};
 ghost use Rattle.base.specs.Limits.{input_limit, row_limit};
-ghost use Rattle.table.specs.Table.{Table, row_at};
-ghost use Rattle.table.specs.Area.{decode};
-ghost use Rattle.memo.specs.Rows.{Small, all_rows};
-ghost use Rattle.planes.specs.Planes.{Low, Outputs};
-ghost use Rattle.exchange.specs.Lanes.{Given};
+ghost use Rattle.table.specs.Table.{Table};
+ghost use Rattle.memo.specs.Memo.{MemoOf};
 ghost use Rattle.plain.specs.Plain.{Plain};
-ghost use Rattle.lanes.specs.Columns.{top_of, lanes_in, LaneRow, Lanes};
 ghost use Rattle.exchange.specs.Pairs.{Tells};
+ghost use Rattle.cube.specs.Lanes.{weight_of};
+ghost use Rattle.lanes.specs.Columns.{past, top_of, DigitLanes, LaneRow, Lanes};
 ghost use Rattle.lanes.specs.Pairs.{OuterTell};
 
-use value::Ternary;
+use cube::Digit;
+use memo::Memo;
+use plain::PlainRows;
 
-// One more than the last of the first k columns that is neither i nor j, or zero.
-fn top_of(i: usize, j: usize, k: usize) -> usize
-    ensures { (result ≡ top_of i j k) × (result ≤ k) }
+// The last of the first k columns that is neither i nor j.
+fn last_other(i: usize, j: usize, k: usize) -> Option<usize>
+    ensures { (past result ≡ top_of i j k) × (past result ≤ k) }
 {
-    let mut q = k;
-    while 0 < q {
-        let c = q - 1;
-        if !((c == i) | (c == j)) {
-            return q;
+    for c in (0..k).rev() {
+        let other = !((c == i) | (c == j));
+        if other {
+            return Some(c);
         }
-        q = c;
     }
-    q
+    None
 }
 
-// The lanes in which row r matches in the column before t, where p, q and w are the lanes that have 0, 1 and x there.
-fn lanes_in(
-    s: &[[u64; memo::OFFERS]; memo::COLUMNS],
-    t: usize,
-    r: usize,
-    p: u32,
-    q: u32,
-    w: u32,
-) -> u32
-    requires { (t ≤ suc input_limit) × (r < row_limit) }
-    ensures { result ≡ lanes_in s.now t r p q w }
-{
-    if t == 0 {
-        return planes::LANES;
+// The columns whose values are the digits of a lane's number.
+#[derive(Clone, Copy)]
+struct Digits {
+    one: Option<usize>,
+    three: Option<usize>,
+    nine: Option<usize>,
+    ghost one_in: { past one ≤ suc input_limit },
+    ghost three_in: { past three ≤ suc input_limit },
+    ghost nine_in: { past nine ≤ suc input_limit },
+}
+
+impl Digits {
+    // The last three columns that are neither i nor j.
+    fn of(memo: &Memo, i: usize, j: usize) -> Digits
+        ensures { (past result.one ≡ top_of i j memo.now.inputs)
+            × (past result.three ≡ top_of i j (past result.one - 1)) × (past result.nine ≡ top_of i j (past result.three - 1)) }
+    {
+        let one = last_other(i, j, memo.inputs);
+        let three = last_other(i, j, one.unwrap_or(0));
+        let nine = last_other(i, j, three.unwrap_or(0));
+        Digits { one, three, nine }
     }
-    let k = t - 1;
-    planes::lanes_of(s[k][0], r, p)
-        | (planes::lanes_of(s[k][1], r, q) | planes::lanes_of(s[k][2], r, w))
+}
+
+// The lanes in which row r matches in the column, whose value is the digit; where there is no column it does in all.
+fn lanes_in(memo: &Memo, column: Option<usize>, digit: Digit, r: usize) -> u32
+    requires { (past column ≤ suc input_limit) × (r < row_limit) }
+    ensures { DigitLanes memo.now.cells (past column) (weight_of digit) r result }
+{
+    match column {
+        Some(k) => digit.lanes_in(memo, k, 0, r),
+        None => planes::LANES,
+    }
 }
 
 // The lanes of row r.
-fn lane_row(s: &[[u64; memo::OFFERS]; memo::COLUMNS], t: usize, u: usize, v: usize, r: usize) -> u32
-    requires { (t ≤ suc input_limit) × (u ≤ suc input_limit) × (v ≤ suc input_limit) × (r < row_limit) }
-    ensures { LaneRow s.now t u v r result }
+fn lane_row(memo: &Memo, digits: Digits, r: usize) -> u32
+    requires { r < row_limit }
+    ensures { LaneRow memo.now.cells (past digits.one) (past digits.three) (past digits.nine) r result }
 {
-    lanes_in(s, t, r, 0x1249249, 0x2492492, 0x4924924)
-        & (lanes_in(s, u, r, 0x1c0e07, 0xe07038, 0x70381c0)
-            & lanes_in(s, v, r, 0x1ff, 0x3fe00, 0x7fc0000))
+    lanes_in(memo, digits.one, Digit::One, r)
+        & (lanes_in(memo, digits.three, Digit::Three, r)
+            & lanes_in(memo, digits.nine, Digit::Nine, r))
 }
 
-fn lanes(
-    s: &[[u64; memo::OFFERS]; memo::COLUMNS],
-    t: usize,
-    u: usize,
-    v: usize,
-    m: usize,
-) -> [u32; base::ROWS]
-    requires { (t ≤ suc input_limit) × (u ≤ suc input_limit) × (v ≤ suc input_limit) × (m ≤ row_limit) }
-    ensures { Lanes s.now t u v m result }
+// The lanes of each row.
+fn lanes(memo: &Memo, digits: Digits) -> [u32; base::ROWS]
+    ensures { Lanes memo.now.cells (past digits.one) (past digits.three) (past digits.nine) memo.now.rows result }
 {
-    let mut g = [0u32; base::ROWS];
-    let mut r: usize = 0;
-    while r < m {
-        g[r] = lane_row(s, t, u, v, r);
-        r += 1;
+    let mut by_row = [0u32; base::ROWS];
+    for r in 0..memo.rows {
+        by_row[r] = lane_row(memo, digits, r);
     }
-    g
+    by_row
 }
 
-// Whether both orders agree in every lane, whatever values the first k columns but i and j have; the rows r match in those behind.
+// Whether both orders agree in every lane, whatever values the first k columns but i and j have; the given rows match in those behind.
 fn outer_agree(
-    g: &[u32; base::ROWS],
-    outs: &[u8; planes::OUTPUTS],
-    s: &[[u64; memo::OFFERS]; memo::COLUMNS],
-    n: usize,
+    memo: &Memo,
+    by_row: &[u32; base::ROWS],
     i: usize,
     j: usize,
-    steady: u64,
-    edges: u64,
+    plain: PlainRows,
     k: usize,
-    r: u64,
+    rows: u64,
 ) -> bool
-    requires { (n ≤ input_limit) × (i ≤ input_limit) × (j ≤ input_limit) × (k ≤ suc input_limit) × Low outs.now × Plain s.now outs.now n i j steady edges }
-    ensures { OuterTell s.now outs.now g.now n i j k r result }
+    requires { (i ≤ input_limit) × (j ≤ input_limit) × (k ≤ suc input_limit) × Plain memo.now i j plain }
+    ensures { OuterTell memo.now by_row.now i j k rows result }
 {
-    if plain::only_plain(r, steady, edges) {
+    if plain.has_all(rows) {
         return true;
     }
-    let t = top_of(i, j, k);
-    if t == 0 {
-        return exchange::lanes_agree(g, outs, s, n, i, j, r);
-    }
-    let q = t - 1;
-    let a = r & s[q][0];
-    let b = r & s[q][1];
-    let c = r & s[q][2];
-    if !outer_agree(g, outs, s, n, i, j, steady, edges, q, a) {
+    let Some(q) = last_other(i, j, k) else {
+        return exchange::lanes_agree(memo, by_row, i, j, rows);
+    };
+    let a = rows & memo.cells[q][0];
+    let b = rows & memo.cells[q][1];
+    let c = rows & memo.cells[q][2];
+    if !outer_agree(memo, by_row, i, j, plain, q, a) {
         return false;
     }
-    if b == a {
-        if c == a {
-            return true;
-        }
-        return outer_agree(g, outs, s, n, i, j, steady, edges, q, c);
-    }
-    if !outer_agree(g, outs, s, n, i, j, steady, edges, q, b) {
+    // Equal rows need no second look.
+    if b != a && !outer_agree(memo, by_row, i, j, plain, q, b) {
         return false;
     }
-    if c == a {
+    let seen = (c == a) | (c == b);
+    seen || outer_agree(memo, by_row, i, j, plain, q, c)
+}
+
+// Whether the two orders of columns i and j agree whatever values the others have.
+// Stays: no twin of the test of this name in `cube`, where one word has every vector, here a part of them.
+pub fn pair_agrees(memo: &Memo, i: usize, j: usize) -> bool
+    requires { (i < memo.now.inputs) × (j < memo.now.inputs) }
+    ensures { (t : Table) → MemoOf t memo.now → Tells t i j result }
+{
+    let plain = PlainRows::of(memo, i, j);
+    if plain.has_all(memo.all) {
         return true;
     }
-    if c == b {
-        return true;
-    }
-    outer_agree(g, outs, s, n, i, j, steady, edges, q, c)
-}
-
-fn output_at(a: &[u8], c: usize) -> u8
-    ensures { result ≡ rank_of (result_of (row_at (decode a.now) (c / 3)).output (value_of (c % 3))) }
-{
-    symbol::result_of(table::output_in(a, c / 3), Ternary::from_rank(c % 3)).to_rank() as u8
-}
-
-// What each row answers for each old output.
-pub fn outputs(a: &[u8]) -> [u8; planes::OUTPUTS]
-    requires { Small (decode a.now) }
-    ensures { Outputs (decode a.now) result }
-{
-    let m = table::rows(a) * 3;
-    let mut f = [0u8; planes::OUTPUTS];
-    let mut c: usize = 0;
-    while c < m {
-        f[c] = output_at(a, c);
-        c += 1;
-    }
-    f
-}
-
-// The column before t, as the number of those before it.
-fn before(t: usize) -> usize
-    ensures { result ≡ t - 1 }
-{
-    if t == 0 { 0 } else { t - 1 }
-}
-
-// Whether the two orders of columns i and j agree whatever values the others have, for a table of n inputs and m rows.
-pub fn pair_agrees(
-    s: &[[u64; memo::OFFERS]; memo::COLUMNS],
-    outs: &[u8; planes::OUTPUTS],
-    all: u64,
-    n: usize,
-    m: usize,
-    i: usize,
-    j: usize,
-) -> bool
-    requires { (n ≤ input_limit) × (m ≤ row_limit) × (i < n) × (j < n) × Low outs.now }
-    ensures { (t : Table) → Given t s.now outs.now n i j → all ≡ all_rows t → m ≡ length t.rows → Tells t i j result }
-{
-    let steady = plain::steady_rows(s, outs, n, m);
-    let edges = plain::edges_of(s, i, j);
-    if plain::only_plain(all, steady, edges) {
-        return true;
-    }
-    let t = top_of(i, j, n);
-    let u = top_of(i, j, before(t));
-    let v = top_of(i, j, before(u));
-    let g = lanes(s, t, u, v, m);
-    outer_agree(&g, outs, s, n, i, j, steady, edges, before(v), all)
+    let digits = Digits::of(memo, i, j);
+    let by_row = lanes(memo, digits);
+    let outer = digits.nine.unwrap_or(0);
+    outer_agree(memo, &by_row, i, j, plain, outer, memo.all)
 }

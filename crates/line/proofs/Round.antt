@@ -31,13 +31,12 @@ use Rattle.files.specs.Parts.{join}
 use Rattle.files.proofs.Parts.{part_join}
 use Rattle.entry.specs.Entry.{space, digit_of, decimal, witness_fields, finding_fields, fields, trailer, entry, Fitting}
 use Rattle.handed.specs.Handed.{Handed, verdict_of, fits_layout}
-use Rattle.entry.proofs.Bytes.{map_at}
+use Rattle.std.proofs.lemmas.List.{get_or-map}
 use Rattle.handed.proofs.Fit.{Parts, parts_of}
 use Rattle.entry.proofs.Clean.{fields_clean}
 use Rattle.entry.proofs.Fields.{entry_length}
 use Rattle.entry.proofs.Fitting.{fits_fitting, fitting_handed}
-use Rattle.line.specs.Told.{value_in, number_in, field_in, byte_in, witness_in, finding_in, told_by, hand_of, handed_by, same_bytes, is_entry}
-use Rattle.line.specs.declared.Told.{Told}
+use Rattle.line.specs.Told.{Told, value_in, number_in, field_in, byte_in, witness_in, finding_in, told_by, hand_of, handed_by, same_bytes, is_entry}
 
 -- ---- characters read back
 
@@ -134,7 +133,7 @@ module _ (s : ℕ) (h : Handed) (p : Parts h) (w : Witness) (e : h.finding ≡ D
   now_back (suc j) b q a c =
       let z : b - 1 ≡ j = omega arith in
       rw z
-      (ap value_in (byte_of_lem 2 j (omega arith) ∙ map_at byte_of (now n w) j V0 (omega (arith, now_length n w))) ∙ value_byte (get_or (now n w) j V0))
+      (ap value_in (byte_of_lem 2 j (omega arith) ∙ get_or-map byte_of (now n w) j V0 0 (omega (arith, now_length n w))) ∙ value_byte (get_or (now n w) j V0))
 
   lone_back : (m : ℕ) (x : Ternary) → m < 8 → get_or (witness_fields (shown n w)) m [] ≡ byte_of x ∷ [] → value_in (byte_in (suc (suc (suc m))) 0 l) ≡ x
   lone_back m x g q = ap value_in (byte_of_lem m 0 g ∙ ap (λ (f : List ℕ). get_or f 0 0) q) ∙ value_byte x

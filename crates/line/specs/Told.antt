@@ -1,13 +1,11 @@
 -- What the fields of a line tell, each at the place that the layout has for it; and when the line is an entry.
-use Rattle.std.specs.Prelude.{Bool, cond, ◌&&◌, List, map, ℕ, ◌+◌, ◌-◌, ◌*◌, eqb, length, get_or, take}
+use Rattle.std.specs.Prelude.{unwrap_or, Bool, cond, ◌&&◌, List, map, ℕ, ◌+◌, ◌-◌, ◌*◌, eqb, length, get_or, take}
 use Prim.Native.Char.{code}
 use Rattle.base.specs.Limits.{input_limit}
 use Rattle.base.specs.Search.{every}
 use Rattle.value.specs.Value.{read_byte}
 use Rattle.value.specs.declared.Ternary.{Ternary}
 use Rattle.value.specs.declared.Ternary.TheVariants.{V0}
-use Rattle.value.specs.declared.Byte.{Byte}
-use Rattle.value.specs.declared.Byte.TheVariants.{Value, Other}
 use Rattle.verdict.specs.Numbers.{number_from}
 use Rattle.verdict.specs.declared.Witness.{Witness}
 use Rattle.verdict.specs.declared.Finding.{Finding}
@@ -15,15 +13,10 @@ use Rattle.verdict.specs.declared.Finding.TheVariants.{Independent, Dependent}
 use Rattle.files.specs.Parts.{part_at}
 use Rattle.entry.specs.Entry.{space, entry}
 use Rattle.handed.specs.Handed.{Handed, verdict_of, fits_layout}
-use Rattle.line.specs.declared.Told.{Told}
 
 -- the value that a byte says; any other byte counts as 0
-abbrev pub or_zero : Byte → Ternary
-or_zero (Value v) = v
-or_zero Other = V0
-
 unfoldable pub value_in : ℕ → Ternary
-value_in b = or_zero (read_byte b)
+value_in b = unwrap_or (read_byte b) V0
 
 -- the number that one or two digits say
 unfoldable pub number_in : List ℕ → ℕ
@@ -50,6 +43,13 @@ witness_in l = record {
 
 abbrev pub finding_in : List ℕ → Finding
 finding_in l = cond (eqb (byte_in 3 0 l) (code "I")) Independent (Dependent (witness_in l))
+
+-- the fields of a line; its name is the line's first bytes
+pub record Told : Type 0 where
+  pub name_length : ℕ
+  pub inputs : ℕ
+  pub rows : ℕ
+  pub finding : Finding
 
 unfoldable pub told_by : List ℕ → Told
 told_by l = record { name_length = length (field_in 0 l); inputs = number_in (field_in 1 l); rows = number_in (field_in 2 l); finding = finding_in l }

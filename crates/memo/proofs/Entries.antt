@@ -55,7 +55,8 @@ every_one (suc n) j f e h =
     ⊎_elim
     (λ q. rw (eq-eqb n j (sym q), and-true (every n (λ (q : ℕ). cond (eqb q j) true (f q))))
     (ap (λ (b : Bool). b && e) (every_same _ _ n (λ k l. rw (ne_eqb k j (λ z. omega arith))))))
-    (λ l. rw (ne_eqb n j (λ z. omega arith)) (and_swap (every n (λ (q : ℕ). cond (eqb q j) true (f q))) (f n) e ∙ ap (λ (b : Bool). b && f n) (every_one n j f e l)))
+    (λ l. rw (ne_eqb n j (λ z. omega arith)) (and_swap (every n (λ (q : ℕ). cond (eqb q j) true (f q))) (f n) e
+    ∙ ap (λ (b : Bool). b && f n) (every_one n j f e l)))
     (eq-or-lt_of_le (le_of_suc-le-suc h))
 
 module _ (t : Table) where
@@ -85,7 +86,8 @@ module _ (t : Table) where
 
   -- the rows that match in every column but j
   rest_is : (j k v : ℕ) → k ≤ t.inputs → k ≤ input_limit →
-      rest_of (cells t) (all_rows t) j k v ≡ mask_of (length t.rows) (λ (i : ℕ). every k (λ (q : ℕ). cond (eqb q j) true (held i (get_or (vector_of k v) q V0) q)))
+      rest_of (cells t) (all_rows t) j k v ≡ mask_of (length t.rows) (λ (i : ℕ). every k
+      (λ (q : ℕ). cond (eqb q j) true (held i (get_or (vector_of k v) q V0) q)))
   unfolding rest_of all_rows every
   rest_is j zero v a b = refl
   rest_is j (suc k) v a b = go (rest_is j k (v / 3) (omega arith) (omega arith)) (eqb k j) refl
@@ -101,7 +103,8 @@ module _ (t : Table) where
 
       go : rest_of (cells t) (all_rows t) j k (v / 3) ≡ mask_of (length t.rows) before → (b : Bool) → eqb k j ≡ b →
           cond b (rest_of (cells t) (all_rows t) j k (v / 3)) (bit_and (rest_of (cells t) (all_rows t) j k (v / 3)) (cell_at (cells t) k (v % 3)))
-          ≡ mask_of (length t.rows) (λ (i : ℕ). every k (λ (q : ℕ). cond (eqb q j) true (held i (get_or (vector_of (suc k) v) q V0) q)) && cond b true (held i (get_or (vector_of (suc k) v) k V0) k))
+          ≡ mask_of (length t.rows) (λ (i : ℕ). every k (λ (q : ℕ). cond (eqb q j) true (held i (get_or (vector_of (suc k) v) q V0) q)) && cond b true
+          (held i (get_or (vector_of (suc k) v) k V0) k))
       go below true e = below ∙ mask_ext _ _ _ (λ i. sym (and-true _ ∙ sym (front i)))
       go below false e =
           rw (below, cell_is k (v % 3) (omega arith) (omega arith), value_rows k (v % 3) (omega arith) (omega arith))
@@ -123,11 +126,14 @@ module _ (t : Table) where
     -- the rows that match in the other columns, in column j as e says, and in the state
     rows_by_lem : (cell : ℕ) (e : ℕ → Bool) → cell ≡ mask_of (length t.rows) e →
         bit_and (bit_and rest (cell_at (cells t) t.inputs o)) cell
-        ≡ mask_of (length t.rows) (λ (i : ℕ). every t.inputs (λ (q : ℕ). cond (eqb q j) (e i) (held i (get_or w q V0) q)) && match_level (row_at t i).state (value_of o))
+        ≡ mask_of (length t.rows) (λ (i : ℕ). every t.inputs (λ (q : ℕ). cond (eqb q j) (e i) (held i (get_or w q V0) q)) && match_level (row_at t i).state
+        (value_of o))
     rows_by_lem cell e q =
         rw (rest_is j t.inputs v (omega arith) small.inputs, cell_is t.inputs o small.inputs (omega arith), state_rows o lo, q)
         (ap (λ (m : ℕ). bit_and m (mask_of (length t.rows) e)) (mask_and _ _ _) ∙ mask_and _ _ _
-        ∙ mask_ext _ _ _ (λ i. and_swap (every t.inputs (λ (q : ℕ). cond (eqb q j) true (held i (get_or w q V0) q))) (match_level (row_at t i).state (value_of o)) (e i) ∙ ap (λ (b : Bool). b && match_level (row_at t i).state (value_of o)) (every_one t.inputs j (λ (q : ℕ). held i (get_or w q V0) q) (e i) lj)))
+        ∙ mask_ext _ _ _ (λ i. and_swap (every t.inputs (λ (q : ℕ). cond (eqb q j) true (held i (get_or w q V0) q)))
+        (match_level (row_at t i).state (value_of o)) (e i) ∙ ap (λ (b : Bool). b && match_level (row_at t i).state (value_of o))
+        (every_one t.inputs j (λ (q : ℕ). held i (get_or w q V0) q) (e i) lj)))
 
     lowest_by : (cell k : ℕ) (e : ℕ → Bool) → cell ≡ mask_of (length t.rows) e →
         ((i q : ℕ) → q < t.inputs → cond (eqb q j) (e i) (held i (get_or w q V0) q) ≡ match_field (field_of (symbol_at (row_at t i) q) w k (value_of x) q)) →
@@ -135,7 +141,8 @@ module _ (t : Table) where
     unfolding row_for row_matches columns_match
     lowest_by cell k e q fits =
         ap (lowest (length t.rows))
-        (rows_by_lem cell e q ∙ mask_ext _ _ _ (λ i. ap (λ (b : Bool). b && match_level (row_at t i).state (value_of o)) (every_same _ _ t.inputs (λ q h. fits i q h))))
+        (rows_by_lem cell e q ∙ mask_ext _ _ _ (λ i. ap (λ (b : Bool). b && match_level (row_at t i).state (value_of o))
+        (every_same _ _ t.inputs (λ q h. fits i q h))))
         ∙ lowest_first _ (length t.rows) small.rows
 
     level_fits : (i q : ℕ) → q < t.inputs →
@@ -148,7 +155,8 @@ module _ (t : Table) where
         go false e = refl
 
     edge_fits : (i q : ℕ) → q < t.inputs →
-        cond (eqb q j) (match_change (symbol_at (row_at t i) j) (value_of x) (value_of d)) (held i (get_or w q V0) q) ≡ match_field (field_of (symbol_at (row_at t i) q) w j (value_of x) q)
+        cond (eqb q j) (match_change (symbol_at (row_at t i) j) (value_of x) (value_of d)) (held i (get_or w q V0) q)
+        ≡ match_field (field_of (symbol_at (row_at t i) q) w j (value_of x) q)
     unfolding match_field field_of held
     edge_fits i q h = go (eqb q j) refl
       where
@@ -158,12 +166,14 @@ module _ (t : Table) where
         go true e = let p : q ≡ j = eqb-true q j e in rw (p, at_j)
         go false e = refl
 
-    level_row : lowest (length t.rows) (bit_and (bit_and rest (cell_at (cells t) t.inputs o)) (cell_at (cells t) j d)) ≡ row_for t w t.inputs (value_of x) (value_of o)
+    level_row : lowest (length t.rows) (bit_and (bit_and rest (cell_at (cells t) t.inputs o)) (cell_at (cells t) j d))
+        ≡ row_for t w t.inputs (value_of x) (value_of o)
     level_row =
         lowest_by (cell_at (cells t) j d) t.inputs (λ (i : ℕ). held i (value_of d) j)
         (cell_is j d (omega (arith, small.inputs)) (omega (arith, d_low)) ∙ value_rows j d lj d_low) level_fits
 
-    edge_row : lowest (length t.rows) (bit_and (bit_and rest (cell_at (cells t) t.inputs o)) (cell_at (cells t) j (3 + (x * 3 + d)))) ≡ row_for t w j (value_of x) (value_of o)
+    edge_row : lowest (length t.rows) (bit_and (bit_and rest (cell_at (cells t) t.inputs o)) (cell_at (cells t) j (3 + (x * 3 + d))))
+        ≡ row_for t w j (value_of x) (value_of o)
     edge_row =
         lowest_by (cell_at (cells t) j (3 + (x * 3 + d))) j (λ (i : ℕ). match_change (symbol_at (row_at t i) j) (value_of x) (value_of d))
         (cell_is j (3 + (x * 3 + d)) (omega (arith, small.inputs)) (omega (arith, d_low)) ∙ change_rows j x d lj lx d_low) edge_fits
@@ -182,8 +192,10 @@ module _ (t : Table) where
     -- what is worked out for one place is what is to stand there
     pub entry_right : entry_of t (cells t) j rest d x o ≡ kept t.inputs (step_of t) j v x o
     unfolding entry_of kept
-    entry_right = rw (step_arrives t w (suc j) (value_of x) (value_of o) (omega arith) (omega (arith, length_vector_of t.inputs v)), same_rank, out_is) (go (eqb x d))
+    entry_right = rw (step_arrives t w (suc j) (value_of x) (value_of o) (omega arith) (omega (arith, length_vector_of t.inputs v)), same_rank, out_is)
+        (go (eqb x d))
       where
-        go : (b : Bool) → cond b o (rank_of (answer_of t w (suc j) (value_of x) (value_of o))) ≡ rank_of (cond b (value_of o) (answer_of t w (suc j) (value_of x) (value_of o)))
+        go : (b : Bool) → cond b o (rank_of (answer_of t w (suc j) (value_of x) (value_of o)))
+            ≡ rank_of (cond b (value_of o) (answer_of t w (suc j) (value_of x) (value_of o)))
         go true = sym (rank_value o lo)
         go false = refl

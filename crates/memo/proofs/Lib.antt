@@ -1,5 +1,7 @@
 pub mod Masks
+pub mod Offers
 pub mod Entries
 pub mod Others
 pub mod Outputs
-pub mod Offers
+pub mod Each
+pub mod Low

@@ -82,3 +82,13 @@ mask_room f i d m e h = rw e (lt_of_lt_of_le (mask_lt f i d) (pow-le-pow_right {
 
 pub bit_small : (b : Bool) (r : ℕ) → r ≡ cond b 1 0 → r < 2
 bit_small b r e = rw e (digit_small b)
+
+-- the mask of all numbers below n, and one more
+all_from : (i m : ℕ) → mask_from (λ (r : ℕ). true) (suc i) m ≡ mask_from (λ (r : ℕ). true) i m
+unfolding mask_from
+all_from i zero = refl
+all_from i (suc m) = rw (all_from (suc i) m)
+
+pub all_more : (n m : ℕ) → m ≡ mask_of n (λ (r : ℕ). true) → m * 2 + 1 ≡ mask_of (n + 1) (λ (r : ℕ). true)
+unfolding mask_of mask_from
+all_more n m e = let s : n + 1 ≡ suc n = omega arith in rw (s, e, all_from 0 n)

@@ -2,20 +2,23 @@
 use Prim.Native.Nat.{ℕ, zero, suc, ◌+◌, ◌-◌, ◌*◌, ◌/◌, ◌%◌, ◌^◌, ◌<◌, ◌≤◌}
 use mathlib.Core.Path.{◌≡◌, sym, ◌∙◌}
 use mathlib.Core.Bool.{Bool, cond}
-use mathlib.Core.List.{List}
-use native.Mathlib.Nat.{pow-suc, div-div-eq-div-mul, mul_comm, div-one, add-zero, zero-add}
+use mathlib.Core.List.{List, []}
+use mathlib.Core.Logic.{⊎_elim}
+use native.Mathlib.Nat.{pow-suc, div-div-eq-div-mul, mul_comm, div-one, add-zero, zero-add, eq-or-lt_of_le}
 use native.Mathlib.Omega.{arith}
-use lib.ListN.{length, get_or, set, replicate, length-replicate, get_or-replicate}
+use lib.ListN.{length, get_or, set, replicate, length-set, length-replicate, get_or-replicate}
+use lib.Seq.{get_or-set_same, get_or-set_other}
 use borrow.Author.Tests.{lt-ltb, le-ltb}
+use Rattle.base.proofs.Bools.{lt_or_ge}
 use Rattle.base.specs.Listed.{listed}
 use Rattle.base.proofs.Listed.{listed_is, listed_length, listed_at}
-use Rattle.base.proofs.Patched.{Patched, patched_more}
+use Rattle.base.proofs.Patched.{Patched}
 use Rattle.symbol.specs.Match.{offered}
 use Rattle.table.specs.Table.{Table, row_at, symbol_at}
 use Rattle.symbol.specs.declared.Symbol.TheVariants.{Held}
 use Rattle.symbol.specs.Masks.{mask_from, mask_of, offers}
 use Rattle.symbol.proofs.Masks.{half, low}
-use Rattle.memo.specs.Rows.{column_of, offered_rows, cell_row}
+use Rattle.memo.specs.Rows.{column_of, offered_rows, cell_row, cells}
 use Rattle.memo.proofs.Masks.{mask_top, mask_down, mask_bottom, mask_room}
 
 -- ---- what stands in a column
@@ -39,19 +42,6 @@ mask_digit f i (suc m) (suc c) h =
     let x : ℕ = mask_from f (suc i) m * 2 + cond (f i) 1 0 in
     let d : x / 2 ^ suc c ≡ x / 2 / 2 ^ c = rw (pow-suc 2 c, mul_comm (2 ^ c) 2) (sym (div-div-eq-div-mul x 2 (2 ^ c))) in
     rw (d, half (mask_from f (suc i) m) (f i), e) (mask_digit f (suc i) m c (omega arith))
-
--- the next bit
-pub next_bit : (e bits c : ℕ) → e ≡ bits / 2 ^ c → e / 2 ≡ bits / 2 ^ (c + 1)
-next_bit e bits c p =
-    let s : c + 1 ≡ suc c = omega arith in
-    rw (p, s, pow-suc 2 c) (div-div-eq-div-mul bits (2 ^ c) 2)
-
--- the next set: c is the place, e the bits that are left
-pub set_more : (s u : List ℕ) (bits e c x : ℕ) → length s ≡ 12 → c < 12 → e ≡ bits / 2 ^ c → x ≡ get_or u c 0 * 2 + e % 2 →
-    Patched (λ (q : ℕ). get_or s q 0 * 2 + bits / 2 ^ q % 2) 0 s u c → Patched (λ (q : ℕ). get_or s q 0 * 2 + bits / 2 ^ q % 2) 0 s (set u c x) (c + 1)
-set_more s u bits e c x l h p q w =
-    let a : 0 + c ≡ c = omega arith in
-    rw a at (patched_more (λ (q : ℕ). get_or s q 0 * 2 + bits / 2 ^ q % 2) 0 s u c x (omega arith) (q ∙ rw (p, w.above c (omega arith))) w)
 
 -- ---- a column, row by row from the last
 
@@ -84,7 +74,8 @@ module _ (t : Table) (k : ℕ) where
   from_more i bits s u h w e p = record {
     within = omega (arith, w.within);
     long = p.long ∙ w.long;
-    sets = λ c b. rw (zero-add c) at (p.inside c b) ∙ mask_down (taken c) rows i (get_or s c 0) (bits / 2 ^ c % 2) h w.within (w.sets c b) (rw e (mask_digit (offered (column_of t (i - 1) k)) 0 12 c b ∙ rw (zero-add c)));
+    sets = λ c b. rw (zero-add c) at (p.inside c b) ∙ mask_down (taken c) rows i (get_or s c 0) (bits / 2 ^ c % 2) h w.within (w.sets c b)
+        (rw e (mask_digit (offered (column_of t (i - 1) k)) 0 12 c b ∙ rw (zero-add c)));
   }
 
   pub from_all : (i : ℕ) (s : List ℕ) → i ≤ 0 → From i s → s ≡ cell_row t k
@@ -101,3 +92,26 @@ unfolding cell_row
 behind t k h =
     listed_is (offered_rows t k) 12 (listed (offered_rows t t.inputs) 12) 0 (listed_length (offered_rows t t.inputs) 12)
     (λ c b. behind_at t k c h ∙ sym (listed_at (offered_rows t t.inputs) 12 c 0 b))
+
+-- the columns: the first k have their own sets, and the others the state's
+pub record Columns (t : Table) (s : List (List ℕ)) (k : ℕ) : Type 0 where
+  pub long : length s ≡ 10
+  pub own : (q : ℕ) → q < k → get_or s q [] ≡ cell_row t q
+  pub states : (q : ℕ) → k ≤ q → q < 10 → get_or s q [] ≡ cell_row t t.inputs
+
+pub columns_more : (t : Table) (s : List (List ℕ)) (k : ℕ) (r : List ℕ) → k < 10 → r ≡ cell_row t k → Columns t s k → Columns t (set s k r) (k + 1)
+columns_more t s k r h e c = record {
+  long = length-set s k r ∙ c.long;
+  own = λ q l. ⊎_elim
+      (λ (z : q ≡ k). rw (z, get_or-set_same s k r [] (omega (arith, c.long))) e)
+      (λ (z : q < k). rw (get_or-set_other s k q r [] (λ y. omega arith)) (c.own q z))
+      (eq-or-lt_of_le {n = q} {m = k} (omega arith));
+  states = λ q g l. rw (get_or-set_other s k q r [] (λ y. omega arith)) (c.states q (omega arith) l);
+}
+
+pub columns_all : (t : Table) (s : List (List ℕ)) (k : ℕ) → t.inputs ≤ k → Columns t s k → s ≡ cells t
+unfolding cells
+columns_all t s k h c = sym (listed_is (cell_row t) 10 s [] c.long (λ q l. ⊎_elim
+    (λ (z : q < k). sym (c.own q z))
+    (λ (z : k ≤ q). behind t q (omega arith) ∙ sym (c.states q z l))
+    (lt_or_ge q k)))

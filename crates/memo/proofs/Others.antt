@@ -126,7 +126,9 @@ module _ (s : List (List ℕ)) (all : ℕ) where
           rw (z, ne_eqb k j (λ e. omega arith), more) (go (eqb k i))
         where
           go : (b : Bool) →
-              cond b (bit_and (others_of s all i j k (v / 3)) (cell_at s j (digit_of (v / 3) (k - suc j)))) (bit_and (bit_and (others_of s all i j k (v / 3)) (cell_at s j (digit_of (v / 3) (k - suc j)))) (cell_at s k (v % 3)))
-              ≡ bit_and (cond (b || false) (others_of s all i j k (v / 3)) (bit_and (others_of s all i j k (v / 3)) (cell_at s k (v % 3)))) (cell_at s j (digit_of (v / 3) (k - suc j)))
+              cond b (bit_and (others_of s all i j k (v / 3)) (cell_at s j (digit_of (v / 3) (k - suc j))))
+              (bit_and (bit_and (others_of s all i j k (v / 3)) (cell_at s j (digit_of (v / 3) (k - suc j)))) (cell_at s k (v % 3)))
+              ≡ bit_and (cond (b || false) (others_of s all i j k (v / 3)) (bit_and (others_of s all i j k (v / 3)) (cell_at s k (v % 3))))
+              (cell_at s j (digit_of (v / 3) (k - suc j)))
           go true = refl
           go false = and_swap (others_of s all i j k (v / 3)) (cell_at s j (digit_of (v / 3) (k - suc j))) (cell_at s k (v % 3))

@@ -104,7 +104,12 @@ module _ (t : Table) (small : Small t) where
   one_entry i j v a b x o li lj ne la lx lo eb =
       let e : rest_of (cells t) (all_rows t) i n (moved i x v) ≡ bit_and (others i j v) (cell_at (cells t) j b) =
       rest_others (cells t) (all_rows t) i j n (moved i x v) ne lj
-      ∙ rw (others_put (cells t) (all_rows t) i j i n v x (rw (eq-eqb i i refl)) lx li, digit_other x (n - suc i) (n - suc j) v lx (λ z. ne (omega arith)), eb) in
+      ∙ rw (
+        others_put (cells t) (all_rows t) i j i n v x (rw (eq-eqb i i refl)) lx li,
+        digit_other x (n - suc i) (n - suc j) v lx
+            (λ z. ne (omega arith)),
+        eb,
+      ) in
       rw (← e) (entry_right t small i (moved i x v) a o x li la lo (sym (digit_same x (n - suc i) v lx)))
 
   kept_low : (k v x o : ℕ) → kept n (step_of t) k v x o < 3
@@ -129,7 +134,8 @@ module _ (t : Table) (small : Small t) where
     unfolding first_then
     then_is =
         rw (one_entry i j v a b x o li lj ne (rw ea (digits.digit_low v (n - suc i))) lx lo eb, ← same_others)
-        (one_entry j i u b x y (kept n (step_of t) i u a o) lj li apart_back (rw eb (digits.digit_low v (n - suc j))) ly (kept_low i u a o) (sym (digit_same x (n - suc i) v lx)))
+        (one_entry j i u b x y (kept n (step_of t) i u a o) lj li apart_back (rw eb (digits.digit_low v (n - suc j))) ly (kept_low i u a o)
+        (sym (digit_same x (n - suc i) v lx)))
 
     value_at_lem : (k d : ℕ) → k < n → d ≡ digit k v → at (vector_of n v) (suc k) ≡ value_of d
     value_at_lem k d h e = digits.value_digit n (suc k) v (omega arith) h ∙ ap value_of (sym e)
@@ -143,7 +149,8 @@ module _ (t : Table) (small : Small t) where
     order_is : (c : List Ternary) → c ≡ put (put (vector_of n v) (suc i) (value_of x)) (suc j) (value_of y) →
         rank_of (eval_order (step_of t) (vector_of n v) c (value_of o) (pair_order n (suc i) (suc j))) ≡ first_then t (cells t) i j (others i j v) a b x y o
     order_is c e =
-        two_steps (laws t n) i j v u (moved j y u) a b o (value_of x) (value_of y) li ne lo c e u_vector (w_vector ∙ sym e) (value_at_lem i a li ea) (value_at_lem j b lj eb) ∙ sym then_is
+        two_steps (laws t n) i j v u (moved j y u) a b o (value_of x) (value_of y) li ne lo c e u_vector (w_vector ∙ sym e) (value_at_lem i a li ea)
+        (value_at_lem j b lj eb) ∙ sym then_is
 
   -- candidate r of the columns i and j
   module _ (i j r : ℕ) (li : i < n) (lj : j < n) (ne : i ≢ j) where
@@ -157,11 +164,14 @@ module _ (t : Table) (small : Small t) where
     here k = sym (digits.digit_is (r / 27) (n - suc k))
 
     pub first_is : rank_of (first_output n (step_of t) (suc i) (suc j) r) ≡ first_then t (cells t) i j (others i j (r / 27)) a b (r / 9 % 3) (r / 3 % 3) (r % 3)
-    first_is = order_is i j (r / 27) a b (r / 9 % 3) (r / 3 % 3) (r % 3) li lj ne (omega arith) (omega arith) (omega arith) (here i) (here j) (current_at n (suc i) (suc j) r) refl
+    first_is = order_is i j (r / 27) a b (r / 9 % 3) (r / 3 % 3) (r % 3) li lj ne (omega arith) (omega arith) (omega arith) (here i) (here j)
+        (current_at n (suc i) (suc j) r) refl
 
-    pub second_is : rank_of (second_output n (step_of t) (suc i) (suc j) r) ≡ second_then t (cells t) i j (others i j (r / 27)) a b (r / 9 % 3) (r / 3 % 3) (r % 3)
+    pub second_is : rank_of (second_output n (step_of t) (suc i) (suc j) r)
+        ≡ second_then t (cells t) i j (others i j (r / 27)) a b (r / 9 % 3) (r / 3 % 3) (r % 3)
     unfolding second_then first_then
     second_is =
         rw (others_comm (cells t) (all_rows t) i j n (r / 27))
         (order_is j i (r / 27) b a (r / 3 % 3) (r / 9 % 3) (r % 3) lj li (λ e. ne (sym e)) (omega arith) (omega arith) (omega arith) (here j) (here i)
-        (current_at n (suc i) (suc j) r) (put_comm (vector_of n (r / 27)) (suc i) (suc j) (value_of (r / 9 % 3)) (value_of (r / 3 % 3)) (λ e. ne (omega arith))))
+        (current_at n (suc i) (suc j) r) (put_comm (vector_of n (r / 27)) (suc i) (suc j) (value_of (r / 9 % 3)) (value_of (r / 3 % 3))
+        (λ e. ne (omega arith))))

@@ -1,2 +1,4 @@
 pub mod Rows
 pub mod Pair
+pub mod Outputs
+pub mod Memo

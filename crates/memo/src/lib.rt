@@ -1,10 +1,17 @@
 #![tactic(auto)]
 
-ghost use Rattle.std.specs.Prelude.{◌≡◌, ℕ, ◌+◌, ◌*◌, ◌/◌, ◌%◌, ◌^◌, ◌<◌, length, get_or};
+ghost use Rattle.std.specs.Prelude.{◌≡◌, ℕ, ◌+◌, ◌*◌, ◌/◌, ◌%◌, ◌^◌, ◌<◌, ◌≤◌, length, get_or};
+ghost use Rattle.base.specs.Limits.{input_limit, row_limit};
 ghost use Rattle.base.proofs.Patched.{Patched};
+ghost use Rattle.value.specs.Value.{rank_of, value_of};
 ghost use Rattle.symbol.specs.Masks.{offers};
+ghost use Rattle.symbol.specs.Match.{result_of};
 ghost use Rattle.table.specs.Area.{decode};
+ghost use Rattle.table.specs.Table.{row_at};
+ghost use Rattle.memo.specs.Outputs.{Outputs};
 ghost use Rattle.memo.specs.Rows.{column_of, all_rows, cell_row, cells, Small};
+
+use value::Ternary;
 
 // What a column may be offered: three values and nine changes.
 pub const OFFERS: usize = 12;
@@ -12,86 +19,112 @@ pub const OFFERS: usize = 12;
 // The columns of the masks: one for each input, and the state.
 pub const COLUMNS: usize = base::INPUTS + 1;
 
-// A set of offers as a number of 64 bits.
-fn wide(x: u16) -> u64
-    ensures { result ≡ x }
-{
-    x as u64
+// What each row answers for each of the three old outputs.
+pub const OUTPUTS: usize = base::ROWS * 3;
+
+// The rows that match in each column, by what it is offered; row r is bit r.
+pub type Cells = [[u64; OFFERS]; COLUMNS];
+
+// What is worked out of a table once: its masks, the set of all its rows, what each row answers for each old output, and the two counts.
+#[derive(Drop)]
+pub struct Memo {
+    pub cells: Cells,
+    pub all: u64,
+    pub outputs: [u8; OUTPUTS],
+    pub inputs: usize,
+    pub rows: usize,
+    pub ghost few_inputs: { inputs ≤ input_limit },
+    pub ghost few_rows: { rows ≤ row_limit },
+}
+
+impl Memo {
+    ghost use Rattle.memo.specs.Memo.{MemoOf};
+
+    pub fn of(area: &[u8]) -> Memo
+        requires { Small (decode area.now) }
+        ensures { MemoOf (decode area.now) result }
+    {
+        Memo {
+            cells: cells_of(area),
+            all: all_rows(area),
+            outputs: outputs_of(area),
+            inputs: table::inputs(area),
+            rows: table::rows(area),
+        }
+    }
 }
 
 // What a column may be offered, if row i matches, as bits; behind the last column stands the state.
-fn offers_at(a: &[u8], i: usize, k: usize) -> u64
-    ensures { result ≡ offers (column_of (decode a.now) i k) }
+fn offers_at(area: &[u8], i: usize, k: usize) -> u64
+    ensures { result ≡ offers (column_of (decode area.now) i k) }
 {
-    if k < table::inputs(a) {
-        return wide(table::offers_in(a, i, k));
+    if k < table::inputs(area) {
+        return u64::from(table::offers_in(area, i, k));
     }
-    wide(table::state_offers(a, i))
+    u64::from(table::state_offers(area, i))
 }
 
 // One row more in front of each set: bit c of `bits` tells whether it is in set c.
-fn add_row(s: &mut [u64; OFFERS], bits: u64)
-    requires { (length s.old ≡ 12) × ((c : ℕ) → c < 12 → get_or s.old c 0 < 2 ^ 63) }
-    ensures { Patched (λ (c : ℕ). get_or s.old c 0 * 2 + bits / 2 ^ c % 2) 0 s.old s.new 12 }
+fn add_row(sets: &mut [u64; OFFERS], bits: u64)
+    requires { (length sets.old ≡ 12) × ((c : ℕ) → c < 12 → get_or sets.old c 0 < 2 ^ 63) }
+    ensures { Patched (λ (c : ℕ). get_or sets.old c 0 * 2 + bits / 2 ^ c % 2) 0 sets.old sets.new 12 }
 {
-    let mut e = bits;
-    let mut c: usize = 0;
-    while c < OFFERS {
-        s[c] = s[c] * 2 + e % 2;
-        e = e / 2;
-        c += 1;
+    for c in 0..OFFERS {
+        sets[c] = sets[c] * 2 + (bits >> c) % 2;
     }
 }
 
 // The rows that match in column k, for each thing that is offered there.
-fn cell_row(a: &[u8], k: usize) -> [u64; OFFERS]
-    requires { Small (decode a.now) }
-    ensures { result ≡ cell_row (decode a.now) k }
+fn cell_row(area: &[u8], k: usize) -> [u64; OFFERS]
+    requires { Small (decode area.now) }
+    ensures { result ≡ cell_row (decode area.now) k }
 {
-    let mut s = [0u64; OFFERS];
-    let mut i = table::rows(a);
-    while 0 < i {
-        i -= 1;
-        add_row(&mut s, offers_at(a, i, k));
+    let mut sets = [0u64; OFFERS];
+    for i in (0..table::rows(area)).rev() {
+        add_row(&mut sets, offers_at(area, i, k));
     }
-    s
+    sets
 }
 
-// The same where `state` are the state's sets, which each column behind the last has.
-fn row_or(a: &[u8], state: [u64; OFFERS], k: usize) -> [u64; OFFERS]
-    requires { Small (decode a.now) × (state ≡ cell_row (decode a.now) (decode a.now).inputs) }
-    ensures { result ≡ cell_row (decode a.now) k }
+// Each column behind the last has the state's sets.
+fn cells_of(area: &[u8]) -> Cells
+    requires { Small (decode area.now) }
+    ensures { result ≡ cells (decode area.now) }
 {
-    if k < table::inputs(a) {
-        return cell_row(a, k);
+    let state = cell_row(area, table::inputs(area));
+    let mut cells = [state; COLUMNS];
+    for k in 0..table::inputs(area) {
+        cells[k] = cell_row(area, k);
     }
-    state
+    cells
 }
 
-pub fn cells_of(a: &[u8]) -> [[u64; OFFERS]; COLUMNS]
-    requires { Small (decode a.now) }
-    ensures { result ≡ cells (decode a.now) }
+fn all_rows(area: &[u8]) -> u64
+    requires { Small (decode area.now) }
+    ensures { result ≡ all_rows (decode area.now) }
 {
-    let state = cell_row(a, table::inputs(a));
-    let mut s = [[0u64; OFFERS]; COLUMNS];
-    let mut k: usize = 0;
-    while k < COLUMNS {
-        let row = row_or(a, state, k);
-        s[k] = row;
-        k += 1;
+    let mut all: u64 = 0;
+    for _row in 0..table::rows(area) {
+        all = all * 2 + 1;
     }
-    s
+    all
 }
 
-pub fn all_rows(a: &[u8]) -> u64
-    requires { Small (decode a.now) }
-    ensures { result ≡ all_rows (decode a.now) }
+fn output_at(area: &[u8], c: usize) -> u8
+    ensures { result ≡ rank_of (result_of (row_at (decode area.now) (c / 3)).output (value_of (c % 3))) }
 {
-    let mut i = table::rows(a);
-    let mut m: u64 = 0;
-    while 0 < i {
-        i -= 1;
-        m = m * 2 + 1;
+    symbol::result_of(table::output_in(area, c / 3), Ternary::from_rank(c % 3)).to_rank() as u8
+}
+
+// What each row answers for each old output.
+fn outputs_of(area: &[u8]) -> [u8; OUTPUTS]
+    requires { Small (decode area.now) }
+    ensures { Outputs (decode area.now) result }
+{
+    let m = table::rows(area) * 3;
+    let mut outputs = [0u8; OUTPUTS];
+    for c in 0..m {
+        outputs[c] = output_at(area, c);
     }
-    m
+    outputs
 }

@@ -1,33 +1,23 @@
 -- The search of a pair's candidates for one in which the two orders differ. Columns are counted from 0.
-use Rattle.std.specs.Prelude.{ℕ, suc, ◌-◌, ◌/◌, ◌%◌, ◌^◌, ◌≡◌, Bool, not, cond, List, eqb, ltb, length}
+use Rattle.std.specs.Prelude.{ℕ, suc, ◌-◌, ◌/◌, ◌%◌, ◌^◌, ◌≡◌, Bool, not, List, eqb, ltb, Option}
+use Rattle.std.specs.Bool.{then_some}
 use Rattle.base.specs.Search.{first}
 use Rattle.table.specs.Table.{Table}
 use Rattle.orders.specs.Verdict.{candidates}
-use Rattle.memo.specs.Rows.{cells, all_rows, Small}
-use Rattle.planes.specs.Planes.{Outputs}
+use Rattle.memo.specs.Rows.{cells, all_rows}
 use Rattle.memo.specs.Pair.{others_of, first_then, second_then}
 
--- what is worked out of a table once: the masks s, and what each of its m rows answers for each old output
-pub record Known (t : Table) (s : List (List ℕ)) (outs : List ℕ) (m : ℕ) : Type 0 where
-  pub small : Small t
-  pub cells_are : s ≡ cells t
-  pub outputs_are : Outputs t outs
-  pub rows_are : m ≡ length t.rows
+-- the number r where it is below n, else none
+abbrev pub found : ℕ → ℕ → Option ℕ
+found n r = then_some (ltb r n) r
 
--- and the set of all its rows, and the number of its inputs
-pub record Given (t : Table) (s : List (List ℕ)) (all : ℕ) (outs : List ℕ) (n m : ℕ) : Type 0 where
-  pub known : Known t s outs m
-  pub all_are : all ≡ all_rows t
-  pub inputs_are : n ≡ t.inputs
-
--- a value number as it stands, else that of x
-unfoldable pub out_of : ℕ → ℕ
-out_of k = cond (ltb k 3) k 2
+-- the two orders differ, where i goes from a to x and j from b to y, and the old output is o
+abbrev pub differs : Table → List (List ℕ) → ℕ → ℕ → ℕ → ℕ → ℕ → ℕ → ℕ → ℕ → Bool
+differs t s i j rest a b x y o = not (eqb (first_then t s i j rest a b x y o) (second_then t s i j rest a b x y o))
 
 -- case c of the 27 of a vector: the two columns have the values a and b in it, and `rest` are the rows that match in the others
 unfoldable pub differs_by : Table → List (List ℕ) → ℕ → ℕ → ℕ → ℕ → ℕ → ℕ → Bool
-differs_by t s i j rest a b c =
-    not (eqb (first_then t s i j rest a b (c / 9) (c / 3 % 3) (c % 3)) (second_then t s i j rest a b (c / 9) (c / 3 % 3) (c % 3)))
+differs_by t s i j rest a b c = differs t s i j rest a b (c / 9) (c / 3 % 3) (c % 3)
 
 -- candidate r, where the two columns weigh wi and wj in a vector's number
 unfoldable pub differs_in : Table → List (List ℕ) → ℕ → ℕ → ℕ → ℕ → ℕ → ℕ → ℕ → Bool

@@ -1,261 +1,230 @@
 #![tactic(auto)]
 
-ghost use Rattle.std.specs.Prelude.{◌≡◌, ◌≢◌, true, ℕ, suc, ◌+◌, ◌*◌, ◌^◌, ◌<◌, ◌≤◌, eqb, length, get_or};
-ghost use Rattle.base.specs.Limits.{input_limit, row_limit};
+ghost use Rattle.std.specs.Prelude.{◌≡◌, ℕ, suc, ◌+◌, ◌-◌, ◌/◌, ◌%◌, ◌^◌, ◌<◌, ◌≤◌, IfSome};
+ghost use Rattle.base.specs.Limits.{input_limit};
 ghost use Rattle.base.specs.Search.{first};
 ghost use Rattle.value.specs.Value.{rank_of, value_of};
 ghost use Rattle.table.specs.Table.{Table};
-ghost use Rattle.memo.specs.Rows.{lowest, cell_at, out_by, entry_of};
-ghost use Rattle.planes.specs.Planes.{Outputs};
-ghost use Rattle.memo.specs.Pair.{others_of, first_then, second_then};
-ghost use Rattle.pair.specs.Search.{Known, Given, out_of, differs_by, differs_in, first_at, output_at};
+ghost use Rattle.orders.specs.Verdict.{candidates};
+ghost use Rattle.memo.specs.Memo.{MemoOf};
+ghost use Rattle.memo.specs.Rows.{lowest, out_by, entry_of};
+ghost use Rattle.memo.specs.Pair.{others_of, first_then};
+ghost use Rattle.pair.specs.Search.{found, differs, differs_by, first_at, output_at};
 
-// The rows that match in column k where c is offered there.
-#[tactic(auto, unfolding(memo::specs::Rows::cell_at))]
-fn cell_at(s: &[[u64; memo::OFFERS]; memo::COLUMNS], k: usize, c: usize) -> u64
-    requires { (k ≤ input_limit) × (c < 12) }
-    ensures { result ≡ cell_at s.now k c }
-{
-    s[k][c]
+use memo::Memo;
+
+// A case of two columns: the values that they go to, and the old output, as value numbers.
+// Stays: numbers, since the contract of `output_at` takes and gives them, and they say which mask of the memo is meant.
+#[derive(Clone, Copy)]
+pub struct Case {
+    pub first_now: usize,
+    pub second_now: usize,
+    pub old: usize,
+    pub ghost first_is_value: { first_now < 3 },
+    pub ghost second_is_value: { second_now < 3 },
+    pub ghost old_is_value: { old < 3 },
+}
+
+impl Case {
+    // Case number c of the 27; candidate c has the same case.
+    pub fn of(c: usize) -> Case
+        ensures { (result.first_now ≡ c / 9 % 3) × (result.second_now ≡ c / 3 % 3) × (result.old ≡ c % 3) }
+    {
+        Case {
+            first_now: c / 9 % 3,
+            second_now: c / 3 % 3,
+            old: c % 3,
+        }
+    }
+
+    // The same case of the two columns exchanged.
+    pub fn turned(self) -> Case
+        ensures { (result.first_now ≡ self.second_now) × (result.second_now ≡ self.first_now) × (result.old ≡ self.old) }
+    {
+        Case {
+            first_now: self.second_now,
+            second_now: self.first_now,
+            old: self.old,
+        }
+    }
+}
+
+// A vector as two columns see it: their values in it, and the rows that match in the other columns.
+#[derive(Clone, Copy)]
+struct Start {
+    first: usize,
+    second: usize,
+    first_was: usize,
+    second_was: usize,
+    rest: u64,
+    ghost first_in: { first < input_limit },
+    ghost second_in: { second < input_limit },
+    ghost first_is_value: { first_was < 3 },
+    ghost second_is_value: { second_was < 3 },
+}
+
+impl Start {
+    // The same of the two columns exchanged.
+    fn turned(self) -> Start
+        ensures { (result.first ≡ self.second) × (result.second ≡ self.first)
+            × (result.first_was ≡ self.second_was) × (result.second_was ≡ self.first_was) × (result.rest ≡ self.rest) }
+    {
+        Start {
+            first: self.second,
+            second: self.first,
+            first_was: self.second_was,
+            second_was: self.first_was,
+            rest: self.rest,
+        }
+    }
+}
+
+// Two columns of a memo, and what each weighs in a vector's number.
+#[derive(Clone, Copy)]
+struct Columns {
+    first: usize,
+    second: usize,
+    first_weight: usize,
+    second_weight: usize,
+    ghost first_in: { first < input_limit },
+    ghost second_in: { second < input_limit },
+    ghost first_weighs: { 0 < first_weight },
+    ghost second_weighs: { 0 < second_weight },
+}
+
+impl Columns {
+    fn of(memo: &Memo, i: usize, j: usize) -> Columns
+        requires { (i < memo.now.inputs) × (j < memo.now.inputs) }
+        ensures { (result.first ≡ i) × (result.second ≡ j)
+            × (result.first_weight ≡ 3 ^ (memo.now.inputs - (i + 1))) × (result.second_weight ≡ 3 ^ (memo.now.inputs - (j + 1))) }
+    {
+        Columns {
+            first: i,
+            second: j,
+            first_weight: power(memo.inputs - (i + 1)),
+            second_weight: power(memo.inputs - (j + 1)),
+        }
+    }
+
+    // Vector number v as the two columns see it.
+    fn at(self, memo: &Memo, v: usize) -> Start
+        ensures { (result.first ≡ self.first) × (result.second ≡ self.second)
+            × (result.first_was ≡ v / self.first_weight % 3) × (result.second_was ≡ v / self.second_weight % 3)
+            × (result.rest ≡ others_of memo.now.cells memo.now.all self.first self.second memo.now.inputs v) }
+    {
+        Start {
+            first: self.first,
+            second: self.second,
+            first_was: v / self.first_weight % 3,
+            second_was: v / self.second_weight % 3,
+            rest: others_of(memo, self.first, self.second, memo.inputs, v),
+        }
+    }
 }
 
 // The rows that match vector number v in each of the first k columns but i and j.
-fn others_of(
-    s: &[[u64; memo::OFFERS]; memo::COLUMNS],
-    all: u64,
-    i: usize,
-    j: usize,
-    k: usize,
-    v: usize,
-) -> u64
+#[tactic(auto, unfolding(memo::specs::Rows::cell_at))]
+fn others_of(memo: &Memo, i: usize, j: usize, k: usize, v: usize) -> u64
     requires { k ≤ suc input_limit }
-    ensures { result ≡ others_of s.now all i j k v }
+    ensures { result ≡ others_of memo.now.cells memo.now.all i j k v }
 {
     if k == 0 {
-        return all;
+        return memo.all;
     }
     let q = k - 1;
-    let m = others_of(s, all, i, j, q, v / 3);
+    let before = others_of(memo, i, j, q, v / 3);
     if (q == i) | (q == j) {
-        return m;
+        return before;
     }
-    m & cell_at(s, q, v % 3)
+    before & memo.cells[q][v % 3]
 }
 
-fn lowest_of(n: usize, m: u64) -> usize
-    ensures { result ≡ lowest n m }
+// The lowest row of a set.
+fn lowest_row(memo: &Memo, set: u64) -> Option<usize>
+    ensures { result ≡ found memo.now.rows (lowest memo.now.rows set) }
 {
-    if m == 0 {
-        n
-    } else {
-        u64::trailing_zeros(m) as usize
-    }
-}
-
-// What row i answers where the old output is value number o.
-fn out_at(outs: &[u8; planes::OUTPUTS], i: usize, o: usize) -> usize
-    requires { (i < row_limit) × (o < 3) }
-    ensures { (result ≡ out_of (get_or outs.now (i * 3 + o) 0)) × (result < 3) }
-{
-    let k = base::wide(outs[i * 3 + o]);
-    if k < 3 { k } else { 2 }
+    let row = set.trailing_zeros() as usize;
+    (row < memo.rows).then_some(row)
 }
 
 // What the rows answer: the lowest level row, else the lowest edge row, else x.
-fn out_by(outs: &[u8; planes::OUTPUTS], m: usize, level: u64, edge: u64, o: usize) -> usize
-    requires { (m ≤ row_limit) × (o < 3) }
-    ensures { ((t : Table) → Outputs t outs.now → m ≡ length t.rows → result ≡ rank_of (out_by t level edge (value_of o))) × (result < 3) }
+fn out_by(memo: &Memo, level: u64, edge: u64, old: usize) -> usize
+    requires { old < 3 }
+    ensures { ((t : Table) → MemoOf t memo.now → result ≡ rank_of (out_by t level edge (value_of old))) × (result < 3) }
 {
-    let i = lowest_of(m, level);
-    if i < m {
-        return out_at(outs, i, o);
+    match lowest_row(memo, level).or(lowest_row(memo, edge)) {
+        Some(row) => usize::from(memo.outputs[row * 3 + old]).min(2),
+        None => 2,
     }
-    let k = lowest_of(m, edge);
-    if k < m {
-        return out_at(outs, k, o);
-    }
-    2
 }
 
-// Column j has the value number d and comes from x; `rest` are the rows that match in the other columns.
-fn entry(
-    s: &[[u64; memo::OFFERS]; memo::COLUMNS],
-    outs: &[u8; planes::OUTPUTS],
-    m: usize,
-    j: usize,
-    rest: u64,
-    d: usize,
-    x: usize,
-    o: usize,
-) -> usize
-    requires { (m ≤ row_limit) × (j < input_limit) × (d < 3) × (x < 3) × (o < 3) }
-    ensures { ((t : Table) → Known t s.now outs.now m → result ≡ entry_of t s.now j rest d x o) × (result < 3) }
+// What column j gives where it comes from the value number x and goes to d; `rest` are the rows that match in the other columns.
+#[tactic(auto, unfolding(memo::specs::Rows::cell_at))]
+fn entry(memo: &Memo, j: usize, rest: u64, d: usize, x: usize, old: usize) -> usize
+    requires { (j < input_limit) × (d < 3) × (x < 3) × (old < 3) }
+    ensures { ((t : Table) → MemoOf t memo.now → result ≡ entry_of t memo.now.cells j rest d x old) × (result < 3) }
 {
     if x == d {
-        return o;
+        return old;
     }
-    let here = rest & cell_at(s, base::INPUTS, o);
-    let level = here & cell_at(s, j, d);
-    let edge = here & cell_at(s, j, 3 + (x * 3 + d));
-    out_by(outs, m, level, edge, o)
+    let here = rest & memo.cells[base::INPUTS][old];
+    let level = here & memo.cells[j][d];
+    let edge = here & memo.cells[j][3 + (x * 3 + d)];
+    out_by(memo, level, edge, old)
 }
 
-// i steps and then j; with the two exchanged, j steps and then i.
-#[tactic(auto, unfolding(memo::specs::Pair::first_then))]
-fn first_then(
-    s: &[[u64; memo::OFFERS]; memo::COLUMNS],
-    outs: &[u8; planes::OUTPUTS],
-    m: usize,
-    i: usize,
-    j: usize,
-    rest: u64,
-    a: usize,
-    b: usize,
-    x: usize,
-    y: usize,
-    o: usize,
-) -> usize
-    requires { (m ≤ row_limit) × (i < input_limit) × (j < input_limit) × (a < 3) × (b < 3) × (x < 3) × (y < 3) × (o < 3) }
-    ensures { ((t : Table) → Known t s.now outs.now m → result ≡ first_then t s.now i j rest a b x y o) × (result < 3) }
+// The first column steps and then the second.
+#[tactic(auto, unfolding(memo::specs::Pair::first_then, memo::specs::Rows::cell_at))]
+fn first_then(memo: &Memo, start: Start, case: Case) -> usize
+    ensures { ((t : Table) → MemoOf t memo.now →
+        result ≡ first_then t memo.now.cells start.first start.second start.rest start.first_was start.second_was
+        case.first_now case.second_now case.old) × (result < 3) }
 {
-    let p = entry(s, outs, m, i, rest & cell_at(s, j, b), x, a, o);
-    entry(s, outs, m, j, rest & cell_at(s, i, x), y, b, p)
+    let one = start.rest & memo.cells[start.second][start.second_was];
+    let between = entry(
+        memo,
+        start.first,
+        one,
+        case.first_now,
+        start.first_was,
+        case.old,
+    );
+    let two = start.rest & memo.cells[start.first][case.first_now];
+    entry(
+        memo,
+        start.second,
+        two,
+        case.second_now,
+        start.second_was,
+        between,
+    )
 }
 
-// The two orders agree for old output o.
-fn agree_o(
-    s: &[[u64; memo::OFFERS]; memo::COLUMNS],
-    outs: &[u8; planes::OUTPUTS],
-    m: usize,
-    i: usize,
-    j: usize,
-    rest: u64,
-    a: usize,
-    b: usize,
-    x: usize,
-    y: usize,
-    o: usize,
-) -> bool
-    requires { (m ≤ row_limit) × (i < input_limit) × (j < input_limit) × (a < 3) × (b < 3) × (x < 3) × (y < 3) × (o < 3) }
-    ensures { (t : Table) → Known t s.now outs.now m → result ≡ eqb (first_then t s.now i j rest a b x y o) (second_then t s.now i j rest a b x y o) }
+// The two orders differ; where a column stays they never do.
+fn differ(memo: &Memo, start: Start, case: Case) -> bool
+    ensures { (t : Table) → MemoOf t memo.now →
+        result ≡ differs t memo.now.cells start.first start.second start.rest start.first_was start.second_was
+        case.first_now case.second_now case.old }
 {
-    let one = first_then(s, outs, m, i, j, rest, a, b, x, y, o);
-    let two = first_then(s, outs, m, j, i, rest, b, a, y, x, o);
-    one == two
-}
-
-// They agree for every old output.
-fn agree_y(
-    s: &[[u64; memo::OFFERS]; memo::COLUMNS],
-    outs: &[u8; planes::OUTPUTS],
-    m: usize,
-    i: usize,
-    j: usize,
-    rest: u64,
-    a: usize,
-    b: usize,
-    x: usize,
-    y: usize,
-) -> bool
-    requires { (m ≤ row_limit) × (i < input_limit) × (j < input_limit) × (a < 3) × (b < 3) × (x < 3) × (y < 3) }
-    ensures { (t : Table) → Known t s.now outs.now m → result ≡ true → (o : ℕ) → o < 3 → first_then t s.now i j rest a b x y o ≡ second_then t s.now i j rest a b x y o }
-{
-    agree_o(s, outs, m, i, j, rest, a, b, x, y, 0)
-        & (agree_o(s, outs, m, i, j, rest, a, b, x, y, 1)
-            & agree_o(s, outs, m, i, j, rest, a, b, x, y, 2))
-}
-
-// And wherever j goes from b.
-fn agree_x(
-    s: &[[u64; memo::OFFERS]; memo::COLUMNS],
-    outs: &[u8; planes::OUTPUTS],
-    m: usize,
-    i: usize,
-    j: usize,
-    rest: u64,
-    a: usize,
-    b: usize,
-    x: usize,
-) -> bool
-    requires { (m ≤ row_limit) × (i < input_limit) × (j < input_limit) × (a < 3) × (b < 3) × (x < 3) }
-    ensures { (t : Table) → Known t s.now outs.now m → result ≡ true → (y o : ℕ) → y < 3 → o < 3 → y ≢ b → first_then t s.now i j rest a b x y o ≡ second_then t s.now i j rest a b x y o }
-{
-    agree_y(s, outs, m, i, j, rest, a, b, x, (b + 1) % 3)
-        & agree_y(s, outs, m, i, j, rest, a, b, x, (b + 2) % 3)
-}
-
-// All 27 cases agree; where i or j stays they do in any case.
-fn agree_v(
-    s: &[[u64; memo::OFFERS]; memo::COLUMNS],
-    outs: &[u8; planes::OUTPUTS],
-    m: usize,
-    i: usize,
-    j: usize,
-    rest: u64,
-    a: usize,
-    b: usize,
-) -> bool
-    requires { (m ≤ row_limit) × (i < input_limit) × (j < input_limit) × (a < 3) × (b < 3) }
-    ensures { (t : Table) → Known t s.now outs.now m → result ≡ true → 27 ≡ first 27 (differs_by t s.now i j rest a b) }
-{
-    agree_x(s, outs, m, i, j, rest, a, b, (a + 1) % 3)
-        & agree_x(s, outs, m, i, j, rest, a, b, (a + 2) % 3)
+    let stays = (case.first_now == start.first_was) | (case.second_now == start.second_was);
+    if stays {
+        return false;
+    }
+    first_then(memo, start, case) != first_then(memo, start.turned(), case.turned())
 }
 
 // The first of the 27 cases in which the two orders differ.
-#[tactic(auto, unfolding(crate::specs::Search::differs_by))]
-fn first_case(
-    s: &[[u64; memo::OFFERS]; memo::COLUMNS],
-    outs: &[u8; planes::OUTPUTS],
-    m: usize,
-    i: usize,
-    j: usize,
-    rest: u64,
-    a: usize,
-    b: usize,
-) -> usize
-    requires { (m ≤ row_limit) × (i < input_limit) × (j < input_limit) × (a < 3) × (b < 3) }
-    ensures { (t : Table) → Known t s.now outs.now m → result ≡ first 27 (differs_by t s.now i j rest a b) }
+fn first_case(memo: &Memo, start: Start) -> Option<usize>
+    ensures first { (t : Table) → MemoOf t memo.now →
+        result ≡ found 27 (first 27 (differs_by t memo.now.cells start.first start.second start.rest start.first_was start.second_was)) }
+    ensures low { IfSome result (λ c. c < 27) }
 {
-    if agree_v(s, outs, m, i, j, rest, a, b) {
-        return 27;
-    }
-    let mut c: usize = 0;
-    while c < 27 {
-        if !agree_o(s, outs, m, i, j, rest, a, b, c / 9, c / 3 % 3, c % 3) {
-            return c;
+    for c in 0..27 {
+        if differ(memo, start, Case::of(c)) {
+            return Some(c);
         }
-        c += 1;
     }
-    c
-}
-
-// The first candidate that differs, of q vectors with 27 cases each; the two columns weigh wi and wj in a vector's number.
-fn scan(
-    s: &[[u64; memo::OFFERS]; memo::COLUMNS],
-    all: u64,
-    outs: &[u8; planes::OUTPUTS],
-    n: usize,
-    m: usize,
-    i: usize,
-    j: usize,
-    wi: usize,
-    wj: usize,
-    q: usize,
-) -> usize
-    requires { (n ≤ input_limit) × (m ≤ row_limit) × (i < input_limit) × (j < input_limit) × (0 < wi) × (0 < wj) × (q ≤ 3 ^ input_limit) }
-    ensures { (t : Table) → Known t s.now outs.now m → result ≡ first (q * 27) (differs_in t s.now all n i j wi wj) }
-{
-    let mut v: usize = 0;
-    while v < q {
-        let rest = others_of(s, all, i, j, n, v);
-        let c = first_case(s, outs, m, i, j, rest, v / wi % 3, v / wj % 3);
-        if c < 27 {
-            return v * 27 + c;
-        }
-        v += 1;
-    }
-    q * 27
+    None
 }
 
 // 3 to the power n.
@@ -263,52 +232,27 @@ pub fn power(n: usize) -> usize
     requires { n ≤ input_limit }
     ensures { result ≡ 3 ^ n }
 {
-    let mut p: usize = 1;
-    let mut k: usize = 0;
-    while k < n {
-        p = p * 3;
-        k += 1;
-    }
-    p
+    3usize.pow(n as u32)
 }
 
 // The first candidate of the columns i and j that differs.
-pub fn first_difference(
-    s: &[[u64; memo::OFFERS]; memo::COLUMNS],
-    all: u64,
-    outs: &[u8; planes::OUTPUTS],
-    n: usize,
-    m: usize,
-    i: usize,
-    j: usize,
-) -> usize
-    requires { (n ≤ input_limit) × (m ≤ row_limit) × (i < n) × (j < n) }
-    ensures { (t : Table) → Given t s.now all outs.now n m → result ≡ first_at t i j }
+pub fn first_difference(memo: &Memo, i: usize, j: usize) -> Option<usize>
+    requires { (i < memo.now.inputs) × (j < memo.now.inputs) }
+    ensures { (t : Table) → MemoOf t memo.now → result ≡ found (candidates t.inputs) (first_at t i j) }
 {
-    let wi = power(n - (i + 1));
-    let wj = power(n - (j + 1));
-    scan(s, all, outs, n, m, i, j, wi, wj, power(n))
+    let columns = Columns::of(memo, i, j);
+    for v in 0..power(memo.inputs) {
+        if let Some(c) = first_case(memo, columns.at(memo, v)) {
+            return Some(v * 27 + c);
+        }
+    }
+    None
 }
 
-// What the order i, j gives from vector number v, where i goes to x, j to y and the old output is o.
-pub fn output_at(
-    s: &[[u64; memo::OFFERS]; memo::COLUMNS],
-    all: u64,
-    outs: &[u8; planes::OUTPUTS],
-    n: usize,
-    m: usize,
-    i: usize,
-    j: usize,
-    v: usize,
-    x: usize,
-    y: usize,
-    o: usize,
-) -> usize
-    requires { (n ≤ input_limit) × (m ≤ row_limit) × (i < n) × (j < n) × (x < 3) × (y < 3) × (o < 3) }
-    ensures { (t : Table) → Given t s.now all outs.now n m → result ≡ output_at t i j v x y o }
+// What the order i, j gives from vector number v, in a case.
+pub fn output_at(memo: &Memo, i: usize, j: usize, v: usize, case: Case) -> usize
+    requires { (i < memo.now.inputs) × (j < memo.now.inputs) }
+    ensures { ((t : Table) → MemoOf t memo.now → result ≡ output_at t i j v case.first_now case.second_now case.old) × (result < 3) }
 {
-    let wi = power(n - (i + 1));
-    let wj = power(n - (j + 1));
-    let rest = others_of(s, all, i, j, n, v);
-    first_then(s, outs, m, i, j, rest, v / wi % 3, v / wj % 3, x, y, o)
+    first_then(memo, Columns::of(memo, i, j).at(memo, v), case)
 }

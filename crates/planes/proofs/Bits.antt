@@ -217,7 +217,8 @@ clear_lowest w m k h l e = bit_and_lem m (m - 1) k ∙ clear_both w m k h l e
 pub bit_shift : (m r : ℕ) → bit m r ≡ eqb (m / 2 ^ r % 2) 1
 unfolding bit
 bit_shift m zero = ap (λ (x : ℕ). eqb (x % 2) 1) (sym (div-one m))
-bit_shift m (suc r) = bit_shift (m / 2) r ∙ ap (λ (x : ℕ). eqb (x % 2) 1) (div-div-eq-div-mul m 2 (2 ^ r) ∙ ap (λ (x : ℕ). m / x) (mul_comm 2 (2 ^ r) ∙ sym (pow-suc 2 r)))
+bit_shift m (suc r) = bit_shift (m / 2) r ∙ ap (λ (x : ℕ). eqb (x % 2) 1)
+    (div-div-eq-div-mul m 2 (2 ^ r) ∙ ap (λ (x : ℕ). m / x) (mul_comm 2 (2 ^ r) ∙ sym (pow-suc 2 r)))
 
 -- the test of a shifted word
 shifted : (m r : ℕ) → bit m r ≡ eqb (bit_and (m / 2 ^ r) 1) 1

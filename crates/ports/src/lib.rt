@@ -1,180 +1,140 @@
 #![tactic(auto)]
 
-// The ports of the header, kept as places of the text, and the `input` lists that name them again.
-ghost use Rattle.std.specs.Prelude.{◌≡◌, not, ◌&&◌, ◌+◌, ◌≤◌, eqb, drop};
+// The ports of the header, and the `input` lists that name them again.
+ghost use Rattle.std.specs.Prelude.{◌≡◌, ◌≤◌, ◌<◌, ◌+◌, [], ◌∷◌, ◌++◌, false, drop, length};
 ghost use Rattle.base.specs.Limits.{input_limit};
-ghost use Rattle.text.specs.Places.{meant};
-ghost use Rattle.grammar.specs.Header.{input_list, list_room};
-ghost use Rattle.ports.specs.Ports.{ports_of, port_at, find, placed, down, is_down, Distinct, InputsRead};
+ghost use Rattle.text.specs.Words.{member};
+ghost use Rattle.ports.specs.Names.{names_of, find, fresh, down, all_up, Distinct, Distinct-prop};
 
-use text::Step;
+use refusal::{Fault, Refusal};
+use text::{Span, Step};
 
 // The output and the inputs.
 pub const PORTS: usize = base::INPUTS + 1;
 
-// The first of so many ports that is the word w, or their count.
-fn position(
-    text: &[u8],
-    w: &[u8],
-    starts: [usize; PORTS],
-    ends: [usize; PORTS],
-    count: usize,
-) -> usize
-    requires { count ≤ input_limit + 1 }
-    ensures { placed count result ≡ find w.now (ports_of text.now starts ends count) }
-{
-    let mut k: usize = 0;
-    while k < count {
-        if text::same(w, text::part(text, starts[k], ends[k])) {
-            return k;
-        }
-        k += 1;
-    }
-    count
-}
+// One `input` list has at most the ports, and a name that is none of them.
+const LIST_ROOM: usize = base::INPUTS + 2;
 
-// An input whose flag is down: neither the output nor past the n inputs.
-fn is_fresh(flags: [bool; PORTS], n: usize, j: usize) -> bool
-    requires { n ≤ input_limit }
-    ensures { result ≡ (not (eqb j 0) && is_down (placed (n + 1) j) flags) }
-{
-    let is_first = j == 0;
-    if is_first {
-        return false;
-    }
-    if n < j {
-        return false;
-    }
-    !flags[j]
-}
-
-// The places of the ports, beside the step that read them.
+// The output, and so many inputs behind it, with different names.
 #[derive(Clone, Copy)]
-pub struct Inputs {
-    pub step: Step,
-    pub starts: [usize; PORTS],
-    pub ends: [usize; PORTS],
+pub struct Ports<'a> {
+    pub names: [&'a [u8]; PORTS],
+    pub inputs: usize,
+    pub ghost long: { length names ≡ input_limit + 1 },
+    pub ghost few: { inputs ≤ input_limit },
+    pub ghost distinct: { Distinct (names_of names inputs) } by { Distinct-prop (names_of names inputs) },
 }
 
-// The inputs up to and with `)`, behind the output that stands from a to e.
-pub fn read_inputs(text: &[u8], at: usize, a: usize, e: usize) -> Inputs
-    ensures { InputsRead text.now at a e result.step result.starts result.ends }
-{
-    let mut starts = [0usize; PORTS];
-    let mut ends = [0usize; PORTS];
-    starts[0] = a;
-    ends[0] = e;
-    let mut i = at;
-    let mut n: usize = 0;
-    while n < base::INPUTS {
-        let w = text::read_name(text, i);
-        let Step::At(b, f) = w else {
-            return Inputs {
-                step: w,
-                starts: starts,
-                ends: ends,
-            };
-        };
-        if position(text, text::part(text, b, f), starts, ends, n + 1) <= n {
-            return Inputs {
-                step: Step::Refused(5, b),
-                starts: starts,
-                ends: ends,
-            };
-        }
-        let c = text::read_either(text, f, b',', b')');
-        let Step::At(more, j) = c else {
-            return Inputs {
-                step: c,
-                starts: starts,
-                ends: ends,
-            };
-        };
-        n += 1;
-        starts[n] = b;
-        ends[n] = f;
-        if more != 1 {
-            return Inputs {
-                step: Step::At(n, j),
-                starts: starts,
-                ends: ends,
-            };
-        }
-        i = j;
-    }
-    let w = text::read_name(text, i);
-    let Step::At(b, f) = w else {
-        return Inputs {
-            step: w,
-            starts: starts,
-            ends: ends,
-        };
-    };
-    if position(text, text::part(text, b, f), starts, ends, n + 1) <= n {
-        return Inputs {
-            step: Step::Refused(5, b),
-            starts: starts,
-            ends: ends,
-        };
-    }
-    Inputs {
-        step: Step::Refused(6, b),
-        starts: starts,
-        ends: ends,
-    }
-}
+impl<'a> Ports<'a> {
+    ghost use Rattle.text.specs.Places.{ended, stood, named};
+    ghost use Rattle.grammar.specs.Header.{input_list, list_room};
+    ghost use Rattle.ports.specs.Ports.{all, output, heading, new_name, ports_behind};
 
-// The flags behind an `input` list, beside the step that read it.
-#[derive(Clone, Copy)]
-pub struct Flagged {
-    pub step: Step,
-    pub flags: [bool; PORTS],
-}
-
-// The names of an `input` list up to and with `;`.
-pub fn read_list(
-    text: &[u8],
-    at: usize,
-    starts: [usize; PORTS],
-    ends: [usize; PORTS],
-    n: usize,
-    flags: [bool; PORTS],
-) -> Flagged
-    requires { (n ≤ input_limit) × Distinct (ports_of text.now starts ends (n + 1)) }
-    ensures { input_list list_room (port_at text.now starts ends 0) (down (ports_of text.now starts ends (n + 1)) flags) at (drop at text.now)
-        ≡ meant text.now (λ a e. down (ports_of text.now starts ends (n + 1)) result.flags) result.step }
-{
-    let mut up = flags;
-    let mut i = at;
-    let mut room: usize = base::INPUTS + 2;
-    while 0 < room {
-        let w = text::read_name(text, i);
-        let Step::At(b, f) = w else {
-            return Flagged { step: w, flags: up };
-        };
-        let j = position(text, text::part(text, b, f), starts, ends, n + 1);
-        if !is_fresh(up, n, j) {
-            return Flagged {
-                step: Step::Refused(5, b),
-                flags: up,
-            };
+    // The output alone.
+    fn new(output: &'a [u8]) -> Ports<'a>
+        ensures no_input { result.inputs ≡ 0 }
+        ensures names { all result ≡ output.now ∷ [] }
+    {
+        Ports {
+            names: [output; PORTS],
+            inputs: 0,
         }
-        let c = text::read_either(text, f, b',', b';');
-        let Step::At(more, k) = c else {
-            return Flagged { step: c, flags: up };
-        };
-        up[j] = true;
-        if more != 1 {
-            return Flagged {
-                step: Step::At(0, k),
-                flags: up,
-            };
-        }
-        i = k;
-        room -= 1;
     }
-    Flagged {
-        step: text::fault_at(text, i),
-        flags: up,
+
+    // One input more, which is none of the ports.
+    fn push(&mut self, name: &'a [u8])
+        requires room { self.old.inputs < input_limit }
+        requires other { member name.now (all self.old) ≡ false }
+        ensures one_more { self.new.inputs ≡ self.old.inputs + 1 }
+        ensures names { all self.new ≡ all self.old ++ (name.now ∷ []) }
+    {
+        let last = self.inputs + 1;
+        self.names[last] = name;
+        self.inputs = last;
+    }
+
+    pub fn output(&self) -> &'a [u8]
+        ensures { result.now ≡ output self.now }
+    {
+        self.names[0]
+    }
+
+    // The first port of a name.
+    fn position(&self, name: &[u8]) -> Option<usize>
+        ensures { result ≡ find name.now (all self.now) }
+    {
+        self.names[..self.inputs + 1]
+            .iter()
+            .position(|port| name == *port)
+    }
+
+    // The input of a name that is not declared yet.
+    fn undeclared(&self, name: &[u8], declared: &[bool; PORTS]) -> Option<usize>
+        ensures { result ≡ fresh (find name.now (all self.now)) declared.now }
+    {
+        let port = self.position(name)?;
+        let is_output = port == 0;
+        if is_output | declared[port] {
+            return None;
+        }
+        Some(port)
+    }
+
+    pub fn all_declared(&self, declared: &[bool; PORTS]) -> bool
+        ensures { result ≡ all_up (self.now.inputs + 1) declared.now }
+    {
+        declared[..self.inputs + 1].iter().all(|flag| *flag)
+    }
+
+    // A name that is none of the ports, behind blanks.
+    fn read_new(&self, text: &[u8], at: usize) -> Result<Span, Refusal>
+        ensures { new_name (all self.now) at (drop at text.now) ≡ named text.now result }
+    {
+        let name = text::read_name(text, at)?;
+        match self.position(name.of(text)) {
+            Some(_) => Err(Fault::Port.at(name.start)),
+            None => Ok(name),
+        }
+    }
+
+    // The inputs up to and with `)`, behind the output.
+    pub fn read_inputs(text: &'a [u8], at: usize, output: &'a [u8]) -> Step<Ports<'a>>
+        ensures { ports_behind input_limit output.now [] at (drop at text.now) ≡ stood text.now heading result }
+    {
+        let mut ports = Ports::new(output);
+        let mut i = at;
+        for _ in 0..base::INPUTS {
+            let name = ports.read_new(text, i)?;
+            let (more, j) = text::read_either(text, name.end, b',', b')')?;
+            ports.push(name.of(text));
+            if !more {
+                return Ok((ports, j));
+            }
+            i = j;
+        }
+        let tenth = ports.read_new(text, i)?;
+        Err(Fault::TooMany.at(tenth.start))
+    }
+
+    // The names of an `input` list up to and with `;`, which are declared then.
+    pub fn read_list(&self, text: &[u8], at: usize, declared: [bool; PORTS]) -> Step<[bool; PORTS]>
+        ensures { input_list list_room (output self.now) (down (all self.now) declared) at (drop at text.now)
+            ≡ stood text.now (λ up. down (all self.now) up) result }
+    {
+        let mut up = declared;
+        let mut i = at;
+        for _ in 0..LIST_ROOM {
+            let name = text::read_name(text, i)?;
+            let port = self
+                .undeclared(name.of(text), &up)
+                .ok_or(Fault::Port.at(name.start))?;
+            let (more, j) = text::read_either(text, name.end, b',', b';')?;
+            up[port] = true;
+            if !more {
+                return Ok((up, j));
+            }
+            i = j;
+        }
+        Err(text::fault_at(text, i))
     }
 }

@@ -5,7 +5,8 @@ ghost use Rattle.std.specs.Prelude.{◌≡◌};
 ghost use Rattle.book.specs.Book.{fetched};
 ghost use Rattle.backward.specs.Back.{start_before, fetched_before};
 
-use book::Fetched;
+use book::Entry;
+use refusal::Refusal;
 
 // `at` is the end of the entry that is next on the way back.
 #[derive(Clone, Copy)]
@@ -14,51 +15,46 @@ pub struct Reader<'a> {
     pub at: usize,
 }
 
-// Entry k of the book that ends at place `at`, counted from 1.
-fn fetch_in(book: &[u8], at: usize, k: usize) -> Fetched
-    ensures { result ≡ fetched book.now at k }
-{
-    book::fetch(book, at, k)
-}
+impl<'a> Reader<'a> {
+    // A reader at the end of the last entry: `good` is the good length that opening answers.
+    pub fn new(book: &'a [u8], good: usize) -> Reader<'a>
+        ensures { (result.book ≡ book.entry) × (result.at ≡ good) }
+    {
+        Reader { book, at: good }
+    }
 
-// A reader at the end of the last entry: `good` is the good length that opening answers.
-pub fn new<'a>(book: &'a [u8], good: usize) -> Reader<'a>
-    ensures { (result.book ≡ book.entry) × (result.at ≡ good) }
-{
-    Reader { book, at: good }
-}
+    // The entry that ends where the reader stands.
+    pub fn last(self) -> Result<Entry, Refusal>
+        ensures { result ≡ fetched_before self.entry.book.now self.entry.at }
+    {
+        backward::entry_before(self.book, self.at)
+    }
 
-// The entry that ends where the reader stands.
-pub fn last<'a>(r: Reader<'a>) -> Fetched
-    ensures { result ≡ fetched_before r.entry.book.now r.entry.at }
-{
-    backward::entry_before(r.book, r.at)
-}
+    // Where that entry starts.
+    pub fn start(self) -> usize
+        ensures { result ≡ start_before self.entry.book.now self.entry.at }
+    {
+        backward::start_before(self.book, self.at)
+    }
 
-// Where that entry starts.
-pub fn start<'a>(r: Reader<'a>) -> usize
-    ensures { result ≡ start_before r.entry.book.now r.entry.at }
-{
-    backward::start_before(r.book, r.at)
-}
+    // The same reader at another place.
+    pub fn moved(self, at: usize) -> Reader<'a>
+        ensures { (result.book ≡ self.entry.book) × (result.at ≡ at) }
+    {
+        Reader { at, ..self }
+    }
 
-// The same reader at another place.
-pub fn moved<'a>(r: Reader<'a>, at: usize) -> Reader<'a>
-    ensures { (result.book ≡ r.entry.book) × (result.at ≡ at) }
-{
-    Reader { book: r.book, at }
-}
+    // The reader one entry back.
+    pub fn back(self) -> Reader<'a>
+        ensures { (result.book ≡ self.entry.book) × (result.at ≡ start_before self.entry.book.now self.entry.at) }
+    {
+        self.moved(self.start())
+    }
 
-// The reader one entry back.
-pub fn back<'a>(r: Reader<'a>) -> Reader<'a>
-    ensures { (result.book ≡ r.entry.book) × (result.at ≡ start_before r.entry.book.now r.entry.at) }
-{
-    moved(r, start(r))
-}
-
-// Entry k, counted from 1, of the entries up to where the reader stands.
-pub fn fetch<'a>(r: Reader<'a>, k: usize) -> Fetched
-    ensures { result ≡ fetched r.entry.book.now r.entry.at k }
-{
-    fetch_in(r.book, r.at, k)
+    // Entry k, counted from 1, of the entries up to where the reader stands.
+    pub fn fetch(self, k: usize) -> Result<Entry, Refusal>
+        ensures { result ≡ fetched self.entry.book.now self.entry.at k }
+    {
+        book::fetch(self.book, self.at, k)
+    }
 }

@@ -1,12 +1,14 @@
 -- The whole primitive. Assumes nothing.
 use mathlib.Core.Path.{◌≡◌, refl, sym, ◌∙◌}
-use mathlib.Core.List.{List, [], ◌++◌, append-nil}
+use mathlib.Core.List.{List, []}
 use mathlib.Core.Bool.{Bool}
 use Prim.Native.Nat.{ℕ, ◌≤◌, ◌<◌}
 use native.Mathlib.Omega.{arith}
-use lib.ListN.{length, take, drop, drop_of_length-le}
-use lib.Seq.{drop-cons, take-length}
+use lib.ListN.{length, drop, drop_of_length-le}
+use lib.Seq.{drop-cons}
 use borrow.Author.Tests.{eq-eqb, le-leb, leb-true}
+use Rattle.std.specs.Prelude.{Result as Answer, Ok, Err}
+use Rattle.refusal.specs.declared.Refusal.{Refusal}
 use Rattle.base.specs.Limits.{input_limit, name_limit, row_limit, text_limit}
 use Rattle.value.specs.declared.Ternary.{Ternary}
 use Rattle.table.specs.Places.{area_size}
@@ -16,22 +18,16 @@ use Rattle.table.proofs.Encoding.{decode_encode}
 use Rattle.writing.specs.Written.{head_of, head_fits, head_written}
 use Rattle.text.specs.Bytes.{bytes}
 use Rattle.text.specs.Reader.{Result, got, refused, Reader, bind, ◌>>=◌, give, skip, keyword, Named, name}
-use Rattle.text.specs.Places.{meant, named, part}
-use Rattle.text.specs.declared.Step.{Step}
-use Rattle.text.specs.declared.Step.TheVariants.{At, Refused}
+use Rattle.text.specs.Places.{ended}
 use Rattle.grammar.specs.Header.{Ports, Declared, port_list, declared}
 use Rattle.grammar.specs.Rows.{rows}
 use Rattle.grammar.specs.Reading.{primitive, end, outcome, or_end, read}
 use Rattle.grammar.proofs.Post.{Gives, after, past, given, checked}
 use Rattle.grammar.proofs.Gives.{port_list_few}
 use Rattle.header.specs.declared.Head.{Head}
-use Rattle.header.specs.declared.HeadStep.{HeadStep}
-use Rattle.header.specs.declared.HeadStep.TheVariants.{At as HeadAt, Refused as HeadRefused}
-use Rattle.header.specs.Heads.{head, head_with, means, raised}
-use Rattle.reading.specs.Told.{out, told, read_into, refusal_of}
+use Rattle.header.specs.Heads.{head, head_with}
+use Rattle.reading.specs.Told.{written, ended as ended_with, refused as refused_with, told, read_into}
 use Rattle.rows.specs.Drawn.{drawn, with_rows, Begun}
-use Rattle.reading.specs.declared.Reading.{Reading}
-use Rattle.reading.specs.declared.Reading.TheVariants.{Table as TableAt, End}
 use Rattle.rows.proofs.Binds.{drawn_got, drawn_refused}
 use Rattle.rows.proofs.Drawing.{head_begun}
 
@@ -53,7 +49,8 @@ head_then {A = A} m k s = go (port_list k s)
     go (refused c p) = refl
 
 opened : (k : ℕ) (s u : List ℕ) (i : ℕ) (z : List ℕ) → keyword (bytes "primitive") k s ≡ got u i z → (w : Named) (j : ℕ) (y : List ℕ) → name i z ≡ got w j y
-    → primitive k s ≡ bind (port_list j y) (λ h. declared h >>= λ d. rows row_limit d.sequential (length h.inputs) [] >>= λ l. keyword (bytes "endprimitive") >>= λ v. give (record { name = w.spelt; sequential = d.sequential; inputs = length h.inputs; start = d.start; rows = l }))
+    → primitive k s ≡ bind (port_list j y) (λ h. declared h >>= λ d. rows row_limit d.sequential (length h.inputs) [] >>= λ l. keyword
+    (bytes "endprimitive") >>= λ v. give (record { name = w.spelt; sequential = d.sequential; inputs = length h.inputs; start = d.start; rows = l }))
 unfolding primitive ◌>>=◌
 opened k s u i z e w j y f = rw (e, f)
 
@@ -75,7 +72,8 @@ module _ (k : ℕ) (s : List ℕ) where
       unfolding table_of
       primitive_body =
           opened k s u i z e w j y f
-          ∙ head_then (λ n sequential start. rows row_limit sequential n [] >>= λ l. keyword (bytes "endprimitive") >>= λ v. give (record { name = w.spelt; sequential = sequential; inputs = n; start = start; rows = l })) j y
+          ∙ head_then (λ n sequential start. rows row_limit sequential n [] >>= λ l. keyword (bytes "endprimitive") >>= λ v. give
+          (record { name = w.spelt; sequential = sequential; inputs = n; start = start; rows = l })) j y
 
       primitive_head : (c p : ℕ) → head j y ≡ refused c p → primitive k s ≡ refused c p
       primitive_head c p g = primitive_body ∙ rw g
@@ -119,10 +117,10 @@ module _ (w : Named) (x : Head) (short : length w.spelt ≤ name_limit) (few : x
 
 -- ---- the last word, and the answer
 
-last_word : {A : Type 0} (t : List ℕ) (f : ℕ → ℕ → A) (b : Table) (d : List ℕ) (z : Step) → encode b ≡ d
-    → drawn encode (bind (meant t f z) (λ v. give b)) ≡ meant t (λ x e. d) z
-last_word t f b d (At x e) q = rw q
-last_word t f b d (Refused c p) q = refl
+last_word : (t : List ℕ) (w : List ℕ) (b : Table) (d : List ℕ) (z : Answer ℕ Refusal) → encode b ≡ d
+    → drawn encode (bind (ended t w z) (λ v. give b)) ≡ ended t d z
+last_word t w b d (Ok e) q = rw q
+last_word t w b d (Err r) q = refl
 
 begins_there : (t : List ℕ) (i : ℕ) → i < length t → or_end (got tt i (drop i t)) ≡ outcome (primitive i (drop i t))
 begins_there t i h = rw (drop-cons t i 0 h)
@@ -130,59 +128,52 @@ begins_there t i h = rw (drop-cons t i 0 h)
 ends_there : (t : List ℕ) (i : ℕ) → length t ≤ i → or_end (got tt i (drop i t)) ≡ end
 ends_there t i h = rw (drop_of_length-le t h)
 
-copied : (d a : List ℕ) → length a ≡ length d → take (length d) d ++ drop (length d) a ≡ d
-copied d a e = rw (take-length, drop_of_length-le a {i = length d} (omega arith), append-nil)
-
 -- ---- the primitive as it is drawn
 
-module _ (t : List ℕ) (at : ℕ) (f : ℕ → ℕ → List ℕ) (s : Step) (opens : keyword (bytes "primitive") at (drop at t) ≡ meant t f s) where
-  abbrev Draws : List ℕ → Step → Type 0
-  Draws d z = drawn encode (primitive at (drop at t)) ≡ meant t (λ x e. d) z
+module _ (t : List ℕ) (at : ℕ) where
+  abbrev pub Drawn : Result (List ℕ)
+  Drawn = drawn encode (primitive at (drop at t))
 
-  pub word_refused : (c p : ℕ) → s ≡ Refused c p → (d : List ℕ) → Draws d s
-  word_refused c p e d = rw (primitive_first at (drop at t) c p (rw e at opens), e)
+  pub word_refused : (c p : ℕ) → keyword (bytes "primitive") at (drop at t) ≡ refused c p → Drawn ≡ refused c p
+  word_refused c p e = rw (primitive_first at (drop at t) c p e)
 
-  module _ (x i : ℕ) (here : s ≡ At x i) (w : Step) (calls : name i (drop i t) ≡ meant t (named t) w) where
-    said_word : keyword (bytes "primitive") at (drop at t) ≡ got (f x i) i (drop i t)
-    said_word = rw here at opens
+  module _ (u : List ℕ) (i : ℕ) (said_word : keyword (bytes "primitive") at (drop at t) ≡ got u i (drop i t)) where
+    pub name_refused : (c p : ℕ) → name i (drop i t) ≡ refused c p → Drawn ≡ refused c p
+    name_refused c p e = rw (primitive_name at (drop at t) _ _ _ said_word c p e)
 
-    pub name_refused : (c p : ℕ) → w ≡ Refused c p → (d : List ℕ) → Draws d w
-    name_refused c p e d = rw (primitive_name at (drop at t) _ _ _ said_word c p (rw e at calls), e)
+    module _ (w : Named) (j : ℕ) (said_name : name i (drop i t) ≡ got w j (drop j t)) where
+      pub head_refused : (c p : ℕ) → head j (drop j t) ≡ refused c p → Drawn ≡ refused c p
+      head_refused c p e = rw (primitive_head at (drop at t) _ _ _ said_word _ _ _ said_name c p e)
 
-    module _ (b j : ℕ) (there : w ≡ At b j) (h : HeadStep) (heads : head j (drop j t) ≡ means t (λ y. y) h) where
-      said_name : name i (drop i t) ≡ got (named t b j) j (drop j t)
-      said_name = rw there at calls
-
-      pub head_refused : (c p : ℕ) → h ≡ HeadRefused c p → (z : Step) → z ≡ raised h → (d : List ℕ) → Draws d z
-      head_refused c p e z q d = rw (primitive_head at (drop at t) _ _ _ said_word _ _ _ said_name c p (rw e at heads), q, e)
-
-      module _ (y : Head) (m : ℕ) (behind : h ≡ HeadAt y m) (a d v : List ℕ) (long : length a ≡ area_size) (same : v ≡ part t b j)
-          (written : d ≡ head_written a (head_of v y.sequential y.inputs y.start)) where
-        said_head : head j (drop j t) ≡ got y m (drop m t)
-        said_head = rw behind at heads
-
-        short : length (part t b j) ≤ name_limit
+      module _ (y : Head) (m : ℕ) (said_head : head j (drop j t) ≡ got y m (drop m t)) (a d v : List ℕ) (long : length a ≡ area_size) (same : v ≡ w.spelt)
+          (drew : d ≡ head_written a (head_of v y.sequential y.inputs y.start)) where
+        short : length w.spelt ≤ name_limit
         short = rw said_name at (name_short.post i (drop i t))
 
         few : y.inputs ≤ input_limit
         few = rw said_head at (head_few.post j (drop j t))
 
-        ready : d ≡ encode (head_of (part t b j) y.sequential y.inputs y.start)
-        ready = head_drawn (named t b j) y short few d a long (rw same at written)
+        ready : d ≡ encode (head_of w.spelt y.sequential y.inputs y.start)
+        ready = head_drawn w y short few d a long (rw same at drew)
 
         pub head_begins : Begun d y.inputs
-        head_begins = head_ready (named t b j) y short few d ready
+        head_begins = head_ready w y short few d ready
 
-        module _ (r : Step) (o : List ℕ) (follow : drawn (λ l. encode (with_rows (decode d) l)) (rows row_limit y.sequential y.inputs [] m (drop m t)) ≡ meant t (λ x e. o) r) where
-          pub rows_refused : (c p : ℕ) → r ≡ Refused c p → Draws o r
-          rows_refused c p e =
-              rw (primitive_stop at (drop at t) _ _ _ said_word _ _ _ said_name _ _ _ said_head c p (drawn_refused _ (rows row_limit y.sequential y.inputs [] m (drop m t)) c p (rw e at follow)), e)
+        abbrev pub Follow : Result (List ℕ)
+        Follow = drawn (λ l. encode (with_rows (decode d) l)) (rows row_limit y.sequential y.inputs [] m (drop m t))
 
-          pub primitive_drawn : (x n : ℕ) → r ≡ At x n → (g : ℕ → ℕ → List ℕ) (z : Step) → keyword (bytes "endprimitive") n (drop n t) ≡ meant t g z → Draws o z
-          primitive_drawn x n e g z ends =
-              let l = drawn_got _ (rows row_limit y.sequential y.inputs [] m (drop m t)) o n (drop n t) (rw e at follow) in
-              rw (primitive_rows at (drop at t) _ _ _ said_word _ _ _ said_name _ _ _ said_head l.0 n (drop n t) l.1, ends)
-              (last_word t g (table_of (named t b j) y l.0) o z (sym (table_drawn (named t b j) y short few d ready l.0) ∙ l.2))
+        pub rows_refused : (c p : ℕ) → Follow ≡ refused c p → Drawn ≡ refused c p
+        rows_refused c p e =
+            rw (primitive_stop at (drop at t) _ _ _ said_word _ _ _ said_name _ _ _ said_head c p (drawn_refused _
+            (rows row_limit y.sequential y.inputs [] m (drop m t)) c p e))
+
+        pub primitive_drawn : (o : List ℕ) (n : ℕ) → Follow ≡ got o n (drop n t) → (z : Answer ℕ Refusal)
+            → keyword (bytes "endprimitive") n (drop n t) ≡ ended t (bytes "endprimitive") z
+            → Drawn ≡ ended t o z
+        primitive_drawn o n e z ends =
+            let l = drawn_got _ (rows row_limit y.sequential y.inputs [] m (drop m t)) o n (drop n t) e in
+            rw (primitive_rows at (drop at t) _ _ _ said_word _ _ _ said_name _ _ _ said_head l.0 n (drop n t) l.1, ends)
+            (last_word t (bytes "endprimitive") (table_of w y l.0) o z (sym (table_drawn w y short few d ready l.0) ∙ l.2))
 
 -- ---- the call
 
@@ -192,14 +183,15 @@ module _ (t : List ℕ) (start : ℕ) (area : List ℕ) (size : length area ≡ 
   unfolding read_into read
   said_from = rw (eq-eqb (length area) area_size size, le-leb (length t) text_limit short, le-leb start (length t) inside, blank)
 
-  pub read_end : length t ≤ i → read_into t start area ≡ out End area
+  pub read_end : length t ≤ i → read_into t start area ≡ ended_with area
   read_end h = rw (said_from, ends_there t i h)
 
-  module _ (more : i < length t) (d : List ℕ) (s : Step) (one : drawn encode (primitive i (drop i t)) ≡ meant t (λ x e. d) s) where
-    pub read_refused : (c p : ℕ) → s ≡ Refused c p → (r : Reading) → r ≡ refusal_of s → read_into t start area ≡ out r area
-    read_refused c p e r q = rw (said_from, begins_there t i more, drawn_refused encode (primitive i (drop i t)) c p (rw e at one), q, e)
+  module _ (more : i < length t) where
+    pub read_refused : (c p : ℕ) → drawn encode (primitive i (drop i t)) ≡ refused c p → read_into t start area ≡ refused_with c p area
+    read_refused c p e = rw (said_from, begins_there t i more, drawn_refused encode (primitive i (drop i t)) c p e)
 
-    pub read_table : (x e : ℕ) → s ≡ At x e → length area ≡ length d → (b : List ℕ) → b ≡ d → read_into t start area ≡ out (TableAt e) b
-    read_table x e q same b w =
-        let l = drawn_got encode (primitive i (drop i t)) d e (drop e t) (rw q at one) in
+    pub read_table : (d : List ℕ) (e : ℕ) → drawn encode (primitive i (drop i t)) ≡ got d e (drop e t) → (b : List ℕ) → b ≡ d
+        → read_into t start area ≡ written e b
+    read_table d e q b w =
+        let l = drawn_got encode (primitive i (drop i t)) d e (drop e t) q in
         rw (said_from, begins_there t i more, l.1, l.2, w)

@@ -4,86 +4,54 @@
 ghost use Rattle.std.specs.Prelude.{◌≡◌, length, drop};
 ghost use Rattle.table.specs.Places.{area_size};
 ghost use Rattle.table.specs.Area.{encode};
-ghost use Rattle.text.specs.Places.{meant};
+ghost use Rattle.text.specs.Places.{ended};
 ghost use Rattle.grammar.specs.Reading.{primitive};
-ghost use Rattle.reading.specs.Told.{out, read_into, refusal_of};
+ghost use Rattle.reading.specs.Told.{out, read_into};
 ghost use Rattle.rows.specs.Drawn.{drawn};
 
-use header::HeadStep;
-use text::Step;
-
-#[derive(Clone, Copy)]
-pub enum Reading {
-    // The place after `endprimitive`; the area holds the table.
-    Table(usize),
-    // Only blanks and comments remain.
-    End,
-    // A refusal's number and place.
-    Refused(u8, usize),
-}
-
-// A step's refusal as the call's.
-fn refusal(s: Step) -> Reading
-    ensures { result ≡ refusal_of s }
-{
-    match s {
-        Step::At(_, e) => Reading::Refused(3, e),
-        Step::Refused(n, p) => Reading::Refused(n, p),
-    }
-}
+use refusal::{Fault, Refusal};
 
 // One primitive, drawn into an area.
-fn read_primitive(text: &[u8], at: usize, draft: &mut [u8]) -> Step
+fn read_primitive(text: &[u8], at: usize, draft: &mut [u8]) -> Result<usize, Refusal>
     requires { length draft.old ≡ area_size }
-    ensures { drawn encode (primitive at (drop at text.now)) ≡ meant text.now (λ x e. draft.new) result }
+    ensures { drawn encode (primitive at (drop at text.now)) ≡ ended text.now draft.new result }
 {
-    let s = text::read_keyword(text, at, b"primitive");
-    let Step::At(_, i) = s else {
-        return s;
-    };
-    let w = text::read_name(text, i);
-    let Step::At(a, e) = w else {
-        return w;
-    };
-    let h = header::read_head(text, e);
-    let HeadStep::At(head, j) = h else {
-        return header::raised(h);
-    };
-    let n = head.inputs;
-    let sequential = head.sequential;
-    let start = head.start;
-    writing::write_head(draft, text::part(text, a, e), sequential, n, start);
-    let r = rows::read_rows(text, j, sequential, n, draft);
-    let Step::At(_, k) = r else {
-        return r;
-    };
+    let i = text::read_keyword(text, at, b"primitive")?;
+    let name = text::read_name(text, i)?;
+    let (head, j) = header::read_head(text, name.end)?;
+    writing::write_head(
+        draft,
+        name.of(text),
+        head.sequential,
+        head.inputs,
+        head.start,
+    );
+    let k = rows::read_rows(text, j, head.sequential, head.inputs, draft)?;
     text::read_keyword(text, k, b"endprimitive")
 }
 
-// Reads one primitive from a place of the text on. The area gets the whole table; "end" and a refusal leave it as it was.
+// Reads one primitive from a place of the text on: the answer is the place behind it, and the area gets the whole table. Where
+// only blanks and comments remain there is none; then, and at a refusal, the area is left as it was.
 #[tactic(auto, unfolding(grammar::specs::Reading::read, crate::specs::Told::read_into))]
-pub fn read(text: &[u8], start: usize, area: &mut [u8]) -> Reading
+pub fn read(text: &[u8], start: usize, area: &mut [u8]) -> Result<Option<usize>, Refusal>
     ensures { read_into text.now start area.old ≡ out result area.new }
 {
     let other_size = area.len() != table::AREA;
     if other_size {
-        return Reading::Refused(10, 0);
+        return Err(Fault::Area.at(0));
     }
     if base::TEXT < text.len() {
-        return Reading::Refused(1, base::TEXT);
+        return Err(Fault::LongText.at(base::TEXT));
     }
     if text.len() < start {
-        return Reading::Refused(3, text.len());
+        return Err(Fault::Unexpected.at(text.len()));
     }
     let i = text::skip_from(text, start);
     if text.len() <= i {
-        return Reading::End;
+        return Ok(None);
     }
     let mut draft = [0u8; table::AREA];
-    let s = read_primitive(text, i, &mut draft);
-    let Step::At(_, e) = s else {
-        return refusal(s);
-    };
+    let next = read_primitive(text, i, &mut draft)?;
     area.copy_from_slice(&draft);
-    Reading::Table(e)
+    Ok(Some(next))
 }

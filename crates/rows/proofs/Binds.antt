@@ -14,7 +14,8 @@ assoc {A = A} m f g k s = go (m k s)
     go (got a j z) = refl
     go (refused c p) = refl
 
-pub under : {A B : Type 0} (m : Reader A) {f g : A → Reader B} → ((a : A) (k : ℕ) (s : List ℕ) → f a k s ≡ g a k s) → (k : ℕ) (s : List ℕ) → (m >>= f) k s ≡ (m >>= g) k s
+pub under : {A B : Type 0} (m : Reader A) {f g : A → Reader B} → ((a : A) (k : ℕ) (s : List ℕ) → f a k s ≡ g a k s) → (k : ℕ) (s : List ℕ)
+    → (m >>= f) k s ≡ (m >>= g) k s
 unfolding ◌>>=◌
 under {A = A} m {f} {g} h k s = go (m k s)
   where

@@ -20,9 +20,11 @@ use Rattle.writing.specs.Written.{head_of, row_written}
 use Rattle.writing.proofs.Rowlaws.{row_written_lem}
 use Rattle.symbol.specs.Match.{is_edge}
 use Rattle.text.specs.Bytes.{bytes}
-use Rattle.text.specs.Places.{meant}
-use Rattle.text.specs.declared.Step.{Step}
-use Rattle.text.specs.declared.Step.TheVariants.{At, Refused}
+use Rattle.text.specs.Places.{ended}
+use Rattle.text.proofs.Readlaws.{passed_on}
+use Rattle.std.specs.Prelude.{Result as Answer, Ok, Err, IsErrAnd}
+use Rattle.refusal.specs.declared.Refusal.{Refusal}
+use Rattle.refusal.specs.declared.Fault.TheVariants.{Unexpected, TooMany, Contradiction}
 use Rattle.grammar.proofs.Post.{Gives, after, past, given}
 use Rattle.text.specs.Reader.{got, refused, bind, ◌>>=◌, ◌>>◌, give, check, if, skip, keyword}
 use Rattle.grammar.specs.Rows.{columns, row, rows, agrees, begins_row, no_rows}
@@ -35,11 +37,13 @@ use Rattle.rows.proofs.Binds.{drawn_got, drawn_refused}
 
 module _ (sequential : Bool) (n : ℕ) (before : List Row) (k : ℕ) (s : List ℕ) (p : ℕ) (r : List ℕ) (e : skip k s ≡ got tt p r) where
   module _ (m : ℕ) where
-    pub rows_row : begins begins_row r ≡ true → rows (suc m) sequential n before k s ≡ bind (row sequential n p r) (λ x. check (agrees n before x) 9 p >> rows m sequential n (before ++ (x ∷ [])))
+    pub rows_row : begins begins_row r ≡ true → rows (suc m) sequential n before k s
+        ≡ bind (row sequential n p r) (λ x. check (agrees n before x) 9 p >> rows m sequential n (before ++ (x ∷ [])))
     unfolding rows ◌>>=◌ if
     rows_row b = rw (e, ahead_is begins_row p r, b)
 
-    pub rows_end : begins begins_row r ≡ false → rows (suc m) sequential n before k s ≡ bind (keyword (bytes "endtable") p r) (λ w. check (not (no_rows before)) 3 p >> give before)
+    pub rows_end : begins begins_row r ≡ false → rows (suc m) sequential n before k s
+        ≡ bind (keyword (bytes "endtable") p r) (λ w. check (not (no_rows before)) 3 p >> give before)
     unfolding rows ◌>>=◌ if
     rows_end b = rw (e, ahead_is begins_row p r, b)
 
@@ -79,7 +83,8 @@ going_none t at sequential n a b = record {
 }
 
 -- one row more
-module _ (h : Table) (before : List Row) (x : Row) (s : Shaped (with_rows h before)) (few : length before < row_limit) (long : length x.symbols ≡ h.inputs) where
+module _ (h : Table) (before : List Row) (x : Row) (s : Shaped (with_rows h before)) (few : length before < row_limit)
+    (long : length x.symbols ≡ h.inputs) where
   more_rows : List Row
   more_rows = before ++ (x ∷ [])
 
@@ -111,7 +116,8 @@ module _ (h : Table) (before : List Row) (x : Row) (s : Shaped (with_rows h befo
   unfolding row_agrees agrees
   agrees_is =
       rw (decode_encode (with_rows h (before ++ (x ∷ []))) shaped_more)
-      (every_same (λ (i : ℕ). not (contradict h.inputs (get_or (before ++ (x ∷ [])) i no_row) (get_or (before ++ (x ∷ [])) (length before) no_row))) (λ (i : ℕ). not (contradict h.inputs (get_or before i no_row) x)) (length before)
+      (every_same (λ (i : ℕ). not (contradict h.inputs (get_or (before ++ (x ∷ [])) i no_row) (get_or (before ++ (x ∷ [])) (length before) no_row)))
+      (λ (i : ℕ). not (contradict h.inputs (get_or before i no_row) x)) (length before)
       (λ i g. rw (row_same i g, row_new)))
 
 module _ {t : List ℕ} {at : ℕ} {h : Table} {sequential : Bool} {n : ℕ} {a : List ℕ} {i k : ℕ} (g : Going t at h sequential n a i k) (less : k < row_limit)
@@ -132,7 +138,8 @@ module _ {t : List ℕ} {at : ℕ} {h : Table} {sequential : Bool} {n : ℕ} {a 
       ∙ agrees_is h g.before x g.shaped few' long'
       ∙ ap (λ (m : ℕ). agrees m g.before x) g.inputs)
 
-  pub going_more : (j : ℕ) → rows row_limit sequential n [] at (drop at t) ≡ rows (row_limit - (k + 1)) sequential n (g.before ++ (x ∷ [])) j (drop j t) → Going t at h sequential n b j (k + 1)
+  pub going_more : (j : ℕ) → rows row_limit sequential n [] at (drop at t)
+      ≡ rows (row_limit - (k + 1)) sequential n (g.before ++ (x ∷ [])) j (drop j t) → Going t at h sequential n b j (k + 1)
   going_more j e = record {
     before = g.before ++ (x ∷ []);
     count = length-append g.before (x ∷ []) ∙ omega (arith, g.count);
@@ -143,7 +150,8 @@ module _ {t : List ℕ} {at : ℕ} {h : Table} {sequential : Bool} {n : ℕ} {a 
     said = e;
   }
 
-pub going_inputs : {t : List ℕ} {at : ℕ} {h : Table} {sequential : Bool} {n : ℕ} {a : List ℕ} {i k : ℕ} → Going t at h sequential n a i k → get_or a inputs_at 0 ≡ n
+pub going_inputs : {t : List ℕ} {at : ℕ} {h : Table} {sequential : Bool} {n : ℕ} {a : List ℕ} {i k : ℕ} → Going t at h sequential n a i k
+    → get_or a inputs_at 0 ≡ n
 going_inputs {h = h} {a = a} g = sym (decode_inputs a) ∙ rw g.same (rw (decode_encode (with_rows h g.before) g.shaped) g.inputs)
 
 pub none_of : (l : List Row) (k : ℕ) → length l ≡ k → k ≡ 0 → no_rows l ≡ true
@@ -159,15 +167,16 @@ pub head_begun : (name : List ℕ) (sequential : Bool) (n : ℕ) (start : Ternar
     → Begun (encode (head_of name sequential n start)) n
 unfolding head_of
 head_begun name sequential n start l m =
-    let s : Shaped (head_of name sequential n start) = record { bounded = record { name = l; inputs = m; rows = omega arith }; columns = λ i g. absurd (omega arith) } in
+    let s : Shaped (head_of name sequential n start) =
+    record { bounded = record { name = l; inputs = m; rows = omega arith }; columns = λ i g. absurd (omega arith) } in
     let e = decode_encode (head_of name sequential n start) s in
     record { same = rw e refl; shaped = rw e s; none = rw e refl; inputs = rw e refl }
 
 -- the word behind the last row
-pub last_draw : {A : Type 0} (t : List ℕ) (f : ℕ → ℕ → A) (h : Table) (before : List Row) (a : List ℕ) (z : Step) → a ≡ encode (with_rows h before)
-    → drawn (λ l. encode (with_rows h l)) (bind (meant t f z) (λ w. give before)) ≡ meant t (λ x e. a) z
-last_draw t f h before a (At x e) q = rw q
-last_draw t f h before a (Refused c p) q = refl
+pub last_draw : {A : Type 0} (t : List ℕ) (w : A) (h : Table) (before : List Row) (a : List ℕ) (z : Answer ℕ Refusal) → a ≡ encode (with_rows h before)
+    → drawn (λ l. encode (with_rows h l)) (bind (ended t w z) (λ w. give before)) ≡ ended t a z
+last_draw t w h before a (Ok e) q = rw q
+last_draw t w h before a (Err r) q = refl
 
 -- a row has a symbol for each input
 columns_long : (m : ℕ) (edge : Bool) → Gives (λ l. length l ≡ m) (columns m edge)
@@ -184,37 +193,40 @@ row_long sequential n = after (columns_long n sequential) (λ l e. past _ (λ y.
 
 module _ {t : List ℕ} {at : ℕ} {h : Table} {sequential : Bool} {n : ℕ} {a : List ℕ} {i k : ℕ} (g : Going t at h sequential n a i k)
     (p : ℕ) (blank : skip i (drop i t) ≡ got tt p (drop p t)) where
-  abbrev Draws : List ℕ → Step → Type 0
-  Draws b z = drawn (λ l. encode (with_rows h l)) (rows row_limit sequential n [] at (drop at t)) ≡ meant t (λ x e. b) z
+  abbrev Draws : List ℕ → Answer ℕ Refusal → Type 0
+  Draws b z = drawn (λ l. encode (with_rows h l)) (rows row_limit sequential n [] at (drop at t)) ≡ ended t b z
 
   module _ (less : k < row_limit) where
     said_next : rows row_limit sequential n [] at (drop at t) ≡ rows (suc (row_limit - (k + 1))) sequential n g.before i (drop i t)
     said_next = let r : row_limit - k ≡ suc (row_limit - (k + 1)) = omega arith in rw r at g.said
 
-    module _ (none : begins begins_row (drop p t) ≡ false) (f : ℕ → ℕ → List ℕ) (z : Step) (word : keyword (bytes "endtable") p (drop p t) ≡ meant t f z) where
-      said_end : rows row_limit sequential n [] at (drop at t) ≡ bind (meant t f z) (λ w. check (not (no_rows g.before)) 3 p >> give g.before)
+    module _ (none : begins begins_row (drop p t) ≡ false) (z : Answer ℕ Refusal)
+        (word : keyword (bytes "endtable") p (drop p t) ≡ ended t (bytes "endtable") z) where
+      said_end : rows row_limit sequential n [] at (drop at t) ≡ bind (ended t (bytes "endtable") z) (λ w. check (not (no_rows g.before)) 3 p >> give g.before)
       said_end = said_next ∙ rows_end sequential n g.before i (drop i t) p (drop p t) blank (row_limit - (k + 1)) none ∙ rw word
 
-      pub end_refused : (c q : ℕ) → z ≡ Refused c q → (b : List ℕ) → Draws b z
-      end_refused c q e b = rw (said_end, e)
+      pub end_refused : (r : Refusal) → z ≡ Err r → (b : List ℕ) (y : Answer ℕ Refusal) → IsErrAnd y (λ x. x ≡ r) → Draws b y
+      end_refused r e b y q = rw (said_end, e) (passed_on t _ _ y r q)
 
-      module _ (x j : ℕ) (e : z ≡ At x j) where
-        pub end_early : k ≡ 0 → Draws a (Refused 3 p)
+      module _ (j : ℕ) (e : z ≡ Ok j) where
+        pub end_early : k ≡ 0 → Draws a (Err (record { fault = Unexpected; place = p }))
         unfolding ◌>>=◌ check
         end_early q = rw (said_end, e, none_of g.before k g.count q)
 
-        pub end_drawn : (k ≡ 0 → ⊥) → Draws a (At p j)
+        pub end_drawn : (k ≡ 0 → ⊥) → Draws a (Ok j)
         unfolding ◌>>=◌ check
         end_drawn q = rw (said_end, e, some_of g.before k g.count q, ← g.same)
 
-    module _ (some : begins begins_row (drop p t) ≡ true) (z : Step) (b : List ℕ) (one : drawn (row_written a) (row sequential n p (drop p t)) ≡ meant t (λ x e. b) z) where
-      said_row : rows row_limit sequential n [] at (drop at t) ≡ bind (row sequential n p (drop p t)) (λ x. check (agrees n g.before x) 9 p >> rows (row_limit - (k + 1)) sequential n (g.before ++ (x ∷ [])))
+    module _ (some : begins begins_row (drop p t) ≡ true) (z : Answer ℕ Refusal) (b : List ℕ)
+        (one : drawn (row_written a) (row sequential n p (drop p t)) ≡ ended t b z) where
+      said_row : rows row_limit sequential n [] at (drop at t)
+          ≡ bind (row sequential n p (drop p t)) (λ x. check (agrees n g.before x) 9 p >> rows (row_limit - (k + 1)) sequential n (g.before ++ (x ∷ [])))
       said_row = said_next ∙ rows_row sequential n g.before i (drop i t) p (drop p t) blank (row_limit - (k + 1)) some
 
-      pub row_refused : (c q : ℕ) → z ≡ Refused c q → (d : List ℕ) → Draws d z
-      row_refused c q e d = rw (said_row, drawn_refused (row_written a) (row sequential n p (drop p t)) c q (rw e at one), e)
+      pub row_refused : (r : Refusal) → z ≡ Err r → (d : List ℕ) (y : Answer ℕ Refusal) → IsErrAnd y (λ x. x ≡ r) → Draws d y
+      row_refused r e d y q = rw (said_row, drawn_refused (row_written a) (row sequential n p (drop p t)) _ _ (rw e at one)) (passed_on t _ _ y r q)
 
-      module _ (x j : ℕ) (e : z ≡ At x j) where
+      module _ (j : ℕ) (e : z ≡ Ok j) where
         taken : (y : Row) × (row sequential n p (drop p t) ≡ got y j (drop j t)) × (row_written a y ≡ b)
         taken = drawn_got (row_written a) (row sequential n p (drop p t)) b j (drop j t) (rw e at one)
 
@@ -224,7 +236,7 @@ module _ {t : List ℕ} {at : ℕ} {h : Table} {sequential : Bool} {n : ℕ} {a 
         agreed : (v : Bool) → v ≡ row_agrees (decode b) k → v ≡ agrees n g.before taken.0
         agreed v q = q ∙ going_agrees g less taken.0 long_taken b taken.2
 
-        pub row_apart : (v : Bool) → v ≡ row_agrees (decode b) k → v ≡ false → Draws b (Refused 9 p)
+        pub row_apart : (v : Bool) → v ≡ row_agrees (decode b) k → v ≡ false → Draws b (Err (record { fault = Contradiction; place = p }))
         unfolding ◌>>=◌ check
         row_apart v q u = rw (said_row, taken.1, ← agreed v q, u)
 
@@ -236,8 +248,10 @@ module _ {t : List ℕ} {at : ℕ} {h : Table} {sequential : Bool} {n : ℕ} {a 
     said_last : rows row_limit sequential n [] at (drop at t) ≡ rows 0 sequential n g.before i (drop i t)
     said_last = let r : row_limit - k ≡ 0 = omega arith in rw r at g.said
 
-    pub full_refused : begins begins_row (drop p t) ≡ true → Draws a (Refused 6 p)
+    pub full_refused : begins begins_row (drop p t) ≡ true → Draws a (Err (record { fault = TooMany; place = p }))
     full_refused some = rw (said_last, rows_full sequential n g.before i (drop i t) p (drop p t) blank some)
 
-    pub full_drawn : begins begins_row (drop p t) ≡ false → (f : ℕ → ℕ → List ℕ) (z : Step) → keyword (bytes "endtable") p (drop p t) ≡ meant t f z → Draws a z
-    full_drawn none f z word = rw (said_last, rows_last sequential n g.before i (drop i t) p (drop p t) blank none, word) (last_draw t f h g.before a z g.same)
+    pub full_drawn : begins begins_row (drop p t) ≡ false → (z : Answer ℕ Refusal) → keyword (bytes "endtable") p (drop p t)
+        ≡ ended t (bytes "endtable") z → Draws a z
+    full_drawn none z word = rw (said_last, rows_last sequential n g.before i (drop i t) p (drop p t) blank none, word)
+        (last_draw t (bytes "endtable") h g.before a z g.same)

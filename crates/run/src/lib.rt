@@ -2,145 +2,130 @@
 
 // The run over a library: each primitive's entry is kept or stored, and what was done is said.
 
-ghost use Rattle.std.specs.Prelude.{◌<◌, ◌≤◌, length};
+ghost use Rattle.std.specs.Prelude.{◌≡◌, ◌+◌, ◌<◌, ◌≤◌, length, IfOk};
 ghost use Rattle.keeping.specs.Keeping.{Holds};
-ghost use Rattle.run.specs.Run.{Apart, UpTo, Goes, Runs};
+ghost use Rattle.run.specs.Run.{Apart, Goes, Runs};
 
 use keeping::Settled;
 use std::fs::File;
-use std::io::Error;
+use std::io;
 
-// Up to which place the file holds the book, or that a write failed.
+// What stays the same over a run: the book's file and its path, the library's text, the length of the book that was found
+// good, and how many primitives the library has.
 #[derive(Clone, Copy)]
-pub enum Held {
-    To(usize),
-    Failed(Error),
+pub struct Run<'a> {
+    pub file: &'a File,
+    pub path: &'a [u8],
+    pub text: &'a [u8],
+    pub good: usize,
+    pub total: usize,
 }
 
-// Where the run goes on in the library and in the book, or that it ends.
+// Where a turn begins in the library and in the book, and which entry it is for, counted from 1.
 #[derive(Clone, Copy)]
-pub enum Went {
-    On(usize, usize),
-    Done,
-    Stopped,
+pub struct Turn {
+    pub start: usize,
+    pub at: usize,
+    pub entry: usize,
 }
 
-// The length of the book that holds all entries, or that the run stopped before.
+// The run ends before the library does; why was said.
 #[derive(Clone, Copy)]
-pub enum Ran {
-    All(usize),
-    Stopped,
-}
+pub struct Stopped;
 
 // ---- how an entry is stored
 
-// Stores a part of the entry that ends at `end`, and flushes it.
-fn store_part(file: &File, book: &[u8], from: usize, to: usize, end: usize) -> Held
+// Stores a part of the entry that ends at `end`, flushes it, and answers where the part ends.
+fn store_part(file: &File, book: &[u8], from: usize, to: usize, end: usize) -> io::Result<usize>
     requires apart { Apart from to end }
     requires from_le_to { (from ≤ to) × (to ≤ length book.now) }
-    ensures { UpTo to result }
+    ensures { IfOk result (λ n. n ≡ to) }
 {
-    match disk::store(file, &book[from..to], from) {
-        Ok(()) => Held::To(to),
-        Err(e) => Held::Failed(e),
-    }
+    disk::store(file, &book[from..to], from)?;
+    Ok(to)
 }
 
 // All bytes but the last are stored before the last one is.
-fn store_entry(file: &File, book: &[u8], at: usize, end: usize) -> Held
+fn store_entry(file: &File, book: &[u8], at: usize, end: usize) -> io::Result<usize>
     requires { (at < end) × (end ≤ length book.now) }
-    ensures { UpTo end result }
+    ensures { IfOk result (λ n. n ≡ end) }
 {
-    let h = store_part(file, book, at, end - 1, end);
-    match h {
-        Held::To(n) => store_part(file, book, n, n + 1, end),
-        Held::Failed(e) => Held::Failed(e),
-    }
+    let last = store_part(file, book, at, end - 1, end)?;
+    store_part(file, book, last, last + 1, end)
 }
 
 // ---- the run
 
-// The next primitive's entry is kept or stored.
+// The next primitive's entry is kept or stored: where the next turn begins, or none at the library's end.
 fn go_on(
     rt: &HostRuntime,
-    file: &File,
-    path: &[u8],
-    text: &[u8],
-    start: usize,
+    run: Run,
     area: &mut [u8],
     book: &mut [u8],
-    at: usize,
-    good: usize,
-    k: usize,
-    total: usize,
-) -> Went
-    requires { Holds text.now start book.old at }
-    ensures { Goes text.now start book.old at result book.new }
+    turn: Turn,
+) -> Result<Option<Turn>, Stopped>
+    requires held { Holds run.text.now turn.start book.old turn.at }
+    requires counted { turn.entry ≤ turn.start + 1 }
+    ensures { Goes run.entry.text.now turn book.old result book.new }
 {
-    let s = keeping::settle(text, start, area, book, at, good);
-    match s {
-        Settled::Kept(next, end) => {
-            say::entry_done(rt, b"kept ", k, total, table::name_in(area));
-            Went::On(next, end)
+    match keeping::settle(run.text, turn.start, area, book, turn.at, run.good) {
+        Ok(Settled::Kept(next, end)) => {
+            say::entry_done(rt, "kept", turn.entry, run.total, table::name_in(area));
+            Ok(Some(Turn {
+                start: next,
+                at: end,
+                entry: turn.entry + 1,
+            }))
         }
-        Settled::Added(next, end) => {
+        Ok(Settled::Added(next, end)) => {
             // What settle says of an entry that it added.
-            prove!(at < end);
+            prove!(turn.at < end);
             prove!(end <= book.len());
-            let h = store_entry(file, book, at, end);
-            match h {
-                Held::To(n) => {
-                    say::entry_done(rt, b"wrote ", k, total, table::name_in(area));
-                    Went::On(next, n)
+            let stored = store_entry(run.file, book, turn.at, end);
+            match stored {
+                Ok(last) => {
+                    say::entry_done(rt, "wrote", turn.entry, run.total, table::name_in(area));
+                    Ok(Some(Turn {
+                        start: next,
+                        at: last,
+                        entry: turn.entry + 1,
+                    }))
                 }
-                Held::Failed(e) => {
-                    disk::fail(rt, path, e);
-                    Went::Stopped
+                Err(error) => {
+                    disk::fail(rt, run.path, error);
+                    Err(Stopped)
                 }
             }
         }
-        Settled::Differs => {
-            say::difference(rt, book, at, k, table::name_in(area));
-            Went::Stopped
+        Ok(Settled::Differs) => {
+            say::difference(rt, book, turn.at, turn.entry, table::name_in(area));
+            Err(Stopped)
         }
-        Settled::End => Went::Done,
-        Settled::Refused(number, place) => {
-            say::refusal(rt, number, place);
-            Went::Stopped
+        Ok(Settled::End) => Ok(None),
+        Err(refusal) => {
+            say::refusal(rt, refusal);
+            Err(Stopped)
         }
     }
 }
 
-// Every entry that stands is compared before the first one is stored, since they come in the library's order.
+// Every entry that stands is compared before the first one is stored, since they come in the library's order. The length
+// of the book that holds all entries.
 pub fn go_through(
     rt: &HostRuntime,
-    file: &File,
-    path: &[u8],
-    text: &[u8],
+    run: Run,
     area: &mut [u8],
     book: &mut [u8],
-    good: usize,
-    total: usize,
-) -> Ran
-    ensures { Runs text.now result book.new }
+) -> Result<usize, Stopped>
+    ensures { Runs run.entry.text.now result book.new }
 {
-    let mut start: usize = 0;
-    let mut at: usize = 0;
-    let mut k: usize = 1;
-    loop {
-        let w = go_on(rt, file, path, text, start, area, book, at, good, k, total);
-        match w {
-            Went::On(next, end) => {
-                start = next;
-                at = end;
-                k += 1;
-            }
-            Went::Done => {
-                return Ran::All(at);
-            }
-            Went::Stopped => {
-                return Ran::Stopped;
-            }
-        }
+    let mut turn = Turn {
+        start: 0,
+        at: 0,
+        entry: 1,
+    };
+    while let Some(next) = go_on(rt, run, area, book, turn)? {
+        turn = next;
     }
+    Ok(turn.at)
 }

@@ -3,61 +3,38 @@
 // What the keeper says, a line for each primitive. What standard output does not take is not said, and the run goes on.
 ghost use Rattle.std.specs.Prelude.{◌≡◌, ◌-◌};
 
-fn print(out: &impl Print, words: &[u8]) {
-    let _ = out.write_all(words);
+use refusal::Refusal;
+
+pub fn refusal(out: &impl Print, refusal: Refusal) {
+    let _ = println!(out; "{refusal}");
 }
 
-fn print_number(out: &impl Print, n: usize) {
-    let _ = out.print(n);
-}
-
-pub fn refusal(out: &impl Print, number: u8, place: usize) {
-    print(out, b"refused ");
-    print_number(out, base::wide(number));
-    print(out, b" at ");
-    print_number(out, place);
-    print(out, b"\n");
-}
-
-// The difference, 0 where b is larger.
-fn less(a: usize, b: usize) -> usize
-    ensures { result ≡ a - b }
+// How many primitives are left behind the first k.
+fn to_go(total: usize, k: usize) -> usize
+    ensures { result ≡ total - k }
 {
-    if a < b {
-        return 0;
-    }
-    a - b
+    total.saturating_sub(k)
 }
 
-pub fn entry_done(out: &impl Print, done: &[u8], k: usize, total: usize, name: &[u8]) {
-    print(out, done);
-    print_number(out, k);
-    print(out, b" of ");
-    print_number(out, total);
-    print(out, b" ");
-    print(out, name);
-    print(out, b", ");
-    print_number(out, less(total, k));
-    print(out, b" to go\n");
+pub fn entry_done(out: &impl Print, done: &str, k: usize, total: usize, name: &[u8]) {
+    let _ = print!(out; "{done} {k} of {total} ");
+    let _ = out.write_all(name);
+    let _ = println!(out; ", {} to go", to_go(total, k));
 }
 
 // The entry that stands in the verdict's place is named as it stands.
 pub fn difference(out: &impl Print, book: &[u8], at: usize, k: usize, name: &[u8]) {
-    print(out, b"stopped: entry ");
-    print_number(out, k);
-    print(out, b" of the book, '");
-    print(out, text::part(book, at, files::next(book, b'\n', at)));
-    print(out, b"', is not the verdict of ");
-    print(out, name);
-    print(out, b"; nothing is changed\n");
+    let _ = print!(out; "stopped: entry {k} of the book, '");
+    let _ = out.write_all(text::part(book, at, files::next(book, b'\n', at)));
+    let _ = print!(out; "', is not the verdict of ");
+    let _ = out.write_all(name);
+    let _ = println!(out; "; nothing is changed");
 }
 
 pub fn surplus(out: &impl Print, entries: usize, total: usize) {
-    print(out, b"stopped: the book has ");
-    print_number(out, entries);
-    print(out, b" entries, the library ");
-    print_number(out, total);
-    print(out, b" primitives; nothing is changed\n");
+    let _ = println!(out;
+        "stopped: the book has {entries} entries, the library {total} primitives; nothing is changed"
+    );
 }
 
 pub fn how_to_use(err: &impl Eprint) {
@@ -65,7 +42,5 @@ pub fn how_to_use(err: &impl Eprint) {
 }
 
 pub fn all_stand(out: &impl Print, total: usize) {
-    print(out, b"all ");
-    print_number(out, total);
-    print(out, b" entries stand\n");
+    let _ = println!(out; "all {total} entries stand");
 }

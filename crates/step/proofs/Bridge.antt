@@ -1,38 +1,18 @@
--- The code's columns, counted from 0, and the inputs of the definitions, counted from 1. Assumes nothing.
-use Prim.Native.Nat.{ℕ, zero, suc, ◌-◌, ◌≤◌, ◌<◌}
-use mathlib.Core.Path.{◌≡◌, refl, ap}
-use mathlib.Core.List.{List, [], ◌∷◌}
-use native.Mathlib.Numerals.{sub-one}
+-- The rows that answer. Assumes nothing.
+use Prim.Native.Nat.{ℕ, zero, suc, ◌-◌}
+use mathlib.Core.Path.{◌≡◌, refl}
+use mathlib.Core.Bool.{Bool, true, false, cond}
+use mathlib.Core.List.{List}
 use native.Mathlib.Omega.{arith}
-use lib.ListN.{length, get_or, set, take, drop, length-drop}
-use lib.Seq.{set_out, take_all}
+use Rattle.std.specs.Prelude.{Option, Some, None}
+use Rattle.std.specs.Bool.{then_some}
+use Rattle.std.specs.Option.{MatchOption, option_or}
 use Rattle.value.specs.declared.Ternary.{Ternary}
-use Rattle.value.specs.declared.Ternary.TheVariants.{V0}
+use Rattle.value.specs.declared.Ternary.TheVariants.{Vx}
 use Rattle.value.specs.Value.{same_value, rank_of}
-use Rattle.table.specs.Table.{Table}
-use Rattle.orders.specs.Vectors.{at, put}
-use Rattle.orders.specs.Order.{Step, eval_order}
-use Rattle.step.specs.Step.{step_of}
-
-pub at_code : (v : List Ternary) (j : ℕ) → 1 ≤ j → get_or v (j - 1) V0 ≡ at v j
-at_code v zero h = absurd (omega arith)
-at_code v (suc k) h = ap (λ (i : ℕ). get_or v i V0) (sub-one (suc k))
-
-pub put_code : (v : List Ternary) (j : ℕ) (x : Ternary) → 1 ≤ j → set v (j - 1) x ≡ put v j x
-put_code v zero x h = absurd (omega arith)
-put_code v (suc k) x h = ap (λ (i : ℕ). set v i x) (sub-one (suc k))
-
-pub put_out : (v : List Ternary) (j : ℕ) (x : Ternary) → length v < j → v ≡ put v j x
-put_out v zero x h = refl
-put_out v (suc k) x h = rw (set_out v k x (omega arith))
-
-pub at_none : (v : List Ternary) (j : ℕ) → j ≡ 0 → V0 ≡ at v j
-at_none v zero h = refl
-at_none v (suc k) h = absurd (omega arith)
-
-pub put_none : (v : List Ternary) (j : ℕ) (x : Ternary) → j ≡ 0 → v ≡ put v j x
-put_none v zero x h = refl
-put_none v (suc k) x h = absurd (omega arith)
+use Rattle.symbol.specs.Match.{result_of}
+use Rattle.table.specs.Table.{Table, row_at}
+use Rattle.step.specs.Step.{row_for, row_with, answer_or, answer_of, step_of}
 
 -- no input has the number 0
 pub step_none : (t : Table) (prev cur : List Ternary) (j : ℕ) (old : Ternary) → j ≡ 0 → old ≡ step_of t prev cur j old
@@ -40,20 +20,34 @@ unfolding step_of same_value rank_of
 step_none t prev cur zero old h = refl
 step_none t prev cur (suc k) old h = absurd (omega arith)
 
--- ---- an order: its first number and the rest
+-- ---- the rows that answer
 
-pub eval_none : (phi : Step) (prev cur : List Ternary) (old : Ternary) (l : List ℕ) → length l ≡ 0 → old ≡ eval_order phi prev cur old l
-eval_none phi prev cur old [] e = refl
-eval_none phi prev cur old (j ∷ l) e = absurd (omega arith)
+pub either_row : (P : Type 0) (l e o : Option ℕ) → MatchOption l P (λ i. o ≡ Some i) → (P → o ≡ e) → o ≡ option_or l e
+either_row P None e o h f = f h
+either_row P (Some i) e o h f = h
 
-pub eval_more : (phi : Step) (prev cur : List Ternary) (old : Ternary) (l : List ℕ) → 0 < length l →
-    eval_order phi (put prev (get_or l 0 0) (at cur (get_or l 0 0))) cur (phi prev cur (get_or l 0 0) old) (drop 1 l) ≡ eval_order phi prev cur old l
-eval_more phi prev cur old [] h = absurd (omega arith)
-eval_more phi prev cur old (j ∷ l) h = refl
+module _ (t : Table) (old : Ternary) where
+  row_by : (p q : Bool) (x y i : ℕ) → Some i ≡ option_or (then_some p x) (then_some q y) →
+      result_of (row_at t i).output old ≡ cond p (result_of (row_at t x).output old) (cond q (result_of (row_at t y).output old) Vx)
+  row_by true q x y i e = let s : i ≡ x = cc in rw s
+  row_by false true x y i e = let s : i ≡ y = cc in rw s
+  row_by false false x y i e = cc
 
--- the part `&l[1..]`
-pub rest_of : (l : List ℕ) → take (length l - 1) (drop 1 l) ≡ drop 1 l
-rest_of l = take_all (length l - 1) (drop 1 l) (omega (arith, length-drop 1 l))
+  x_by : (p q : Bool) (x y : ℕ) → None ≡ option_or (then_some p x) (then_some q y) →
+      Vx ≡ cond p (result_of (row_at t x).output old) (cond q (result_of (row_at t y).output old) Vx)
+  x_by true q x y e = cc
+  x_by false true x y e = cc
+  x_by false false x y e = refl
 
-pub rest_length : (l : List ℕ) → length (take (length l - 1) (drop 1 l)) ≡ length l - 1
-rest_length l = rw (rest_of l) (length-drop 1 l)
+  module _ (v : List Ternary) (j : ℕ) (from : Ternary) where
+    -- a row that holds no edge, or else one with its edge in column j - 1
+    abbrev pub either : Option ℕ
+    either = option_or (row_with t v t.inputs from old) (row_with t v (j - 1) from old)
+
+    pub row_answers : (i : ℕ) → Some i ≡ either → result_of (row_at t i).output old ≡ answer_of t v j from old
+    unfolding answer_of answer_or row_for
+    row_answers i e = row_by _ _ _ _ i e
+
+    pub x_answers : None ≡ either → Vx ≡ answer_of t v j from old
+    unfolding answer_of answer_or row_for
+    x_answers e = x_by _ _ _ _ e

@@ -1,6 +1,6 @@
 -- One step of a table: document 01, "One step and one order", and source 004.
-use Rattle.std.specs.Prelude.{ℕ, ◌-◌, cond, List, ltb, length}
-use Rattle.base.specs.Search.{first}
+use Rattle.std.specs.Prelude.{ℕ, ◌-◌, cond, List, Option, ltb, length}
+use Rattle.base.specs.Search.{first, found}
 use Rattle.value.specs.declared.Ternary.{Ternary}
 use Rattle.value.specs.declared.Ternary.TheVariants.{Vx}
 use Rattle.value.specs.Value.{same_value}
@@ -13,6 +13,10 @@ use Rattle.orders.specs.Order.{Step}
 -- the row that matches the inputs at v, with column k offered as a change from `from`, and the old output; past the last where none does
 unfoldable pub row_for : Table → List Ternary → ℕ → Ternary → Ternary → ℕ
 row_for t v k from old = first (length t.rows) (λ (i : ℕ). row_matches t.inputs (row_at t i) v k from old)
+
+-- the same, if there is one
+abbrev pub row_with : Table → List Ternary → ℕ → Ternary → Ternary → Option ℕ
+row_with t v k from old = found (length t.rows) (λ (i : ℕ). row_matches t.inputs (row_at t i) v k from old)
 
 -- what row i answers, or `other` where it is past the last
 unfoldable pub answer_or : Table → Ternary → ℕ → Ternary → Ternary

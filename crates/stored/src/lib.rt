@@ -1,9 +1,11 @@
-#![tactic(auto)]
+#![tactic(auto, unfolding(crate::specs::Stored::level_byte, crate::specs::Stored::level_of, crate::specs::Stored::symbol_byte, crate::specs::Stored::second_byte, crate::specs::Stored::letter_of, crate::specs::Stored::symbol_of, crate::specs::Stored::output_byte, crate::specs::Stored::output_of, crate::specs::Stored::stores_level, crate::specs::Stored::stores_symbol, crate::specs::Stored::stores_output))]
 
 ghost use Rattle.std.specs.Prelude.{◌≡◌};
 ghost use Rattle.stored.specs.Stored.{level_byte, level_of, symbol_byte, second_byte, letter_of, symbol_of, output_byte, output_of, stores_level, stores_symbol, stores_output};
 
 use symbol::{Level, Output, Symbol};
+
+// Stays: From would stand in `symbol`, whose types know of no bytes, apart from the tests of the same letters here, which is no plainer.
 
 pub fn level_byte(l: Level) -> u8
     ensures { result ≡ level_byte l }
@@ -17,7 +19,6 @@ pub fn level_byte(l: Level) -> u8
     }
 }
 
-#[tactic(auto, unfolding(crate::specs::Stored::level_of))]
 pub fn level_of(b: u8) -> Level
     ensures { result ≡ level_of b }
 {
@@ -48,17 +49,11 @@ pub fn second_byte(s: Symbol) -> u8
     ensures { result ≡ second_byte s }
 {
     match s {
-        Symbol::Held(_) => 0,
         Symbol::Edge(_, w) => level_byte(w),
-        Symbol::Rise => 0,
-        Symbol::Fall => 0,
-        Symbol::Positive => 0,
-        Symbol::Negative => 0,
-        Symbol::Every => 0,
+        _ => 0,
     }
 }
 
-#[tactic(auto, unfolding(crate::specs::Stored::letter_of))]
 fn letter_of(b: u8) -> Symbol
     ensures { result ≡ letter_of b }
 {
@@ -73,54 +68,38 @@ fn letter_of(b: u8) -> Symbol
 }
 
 // The symbol that two stored bytes stand for.
-#[tactic(auto, unfolding(crate::specs::Stored::symbol_of))]
 pub fn symbol_of(b: u8, c: u8) -> Symbol
     ensures { result ≡ symbol_of b c }
 {
     if c == 0 {
-        return letter_of(b);
+        letter_of(b)
+    } else {
+        Symbol::Edge(level_of(b), level_of(c))
     }
-    Symbol::Edge(level_of(b), level_of(c))
 }
 
 // A byte is the one that stores its level.
-#[tactic(auto, unfolding(crate::specs::Stored::level_byte, crate::specs::Stored::level_of, crate::specs::Stored::stores_level))]
 pub fn stores_level(b: u8) -> bool
     ensures { result ≡ stores_level b }
 {
-    match b {
-        b'0' => true,
-        b'1' => true,
-        b'x' => true,
-        b'b' => true,
-        b'?' => true,
-        _ => false,
-    }
+    matches!(b, b'0' | b'1' | b'x' | b'b' | b'?')
 }
 
-#[tactic(auto, unfolding(crate::specs::Stored::letter_of, crate::specs::Stored::second_byte, crate::specs::Stored::stores_level, crate::specs::Stored::stores_symbol, crate::specs::Stored::symbol_byte, crate::specs::Stored::symbol_of))]
 fn stores_letter(b: u8) -> bool
     ensures { result ≡ stores_symbol b 0 }
 {
-    match b {
-        b'r' => true,
-        b'f' => true,
-        b'p' => true,
-        b'n' => true,
-        b'*' => true,
-        _ => stores_level(b),
-    }
+    matches!(b, b'r' | b'f' | b'p' | b'n' | b'*') || stores_level(b)
 }
 
 // Two bytes are those that store their symbol.
-#[tactic(auto, unfolding(crate::specs::Stored::second_byte, crate::specs::Stored::stores_level, crate::specs::Stored::stores_symbol, crate::specs::Stored::symbol_byte, crate::specs::Stored::symbol_of))]
 pub fn stores_symbol(b: u8, c: u8) -> bool
     ensures { result ≡ stores_symbol b c }
 {
     if c == 0 {
-        return stores_letter(b);
+        stores_letter(b)
+    } else {
+        stores_level(b) && stores_level(c)
     }
-    stores_level(c) & stores_level(b)
 }
 
 pub fn output_byte(o: Output) -> u8
@@ -134,7 +113,6 @@ pub fn output_byte(o: Output) -> u8
     }
 }
 
-#[tactic(auto, unfolding(crate::specs::Stored::output_of))]
 pub fn output_of(b: u8) -> Output
     ensures { result ≡ output_of b }
 {
@@ -147,15 +125,8 @@ pub fn output_of(b: u8) -> Output
 }
 
 // A byte is the one that stores its output.
-#[tactic(auto, unfolding(crate::specs::Stored::output_byte, crate::specs::Stored::output_of, crate::specs::Stored::stores_output))]
 pub fn stores_output(b: u8) -> bool
     ensures { result ≡ stores_output b }
 {
-    match b {
-        b'0' => true,
-        b'1' => true,
-        b'x' => true,
-        b'-' => true,
-        _ => false,
-    }
+    matches!(b, b'0' | b'1' | b'x' | b'-')
 }

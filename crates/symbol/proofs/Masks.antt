@@ -39,7 +39,14 @@ unfolding mask_from
 and_from f g i zero = refl
 and_from f g i (suc m) =
     and_step (mask_from f i (suc m)) (mask_from g i (suc m))
-    ∙ rw (half (mask_from f (suc i) m) (f i), half (mask_from g (suc i) m) (g i), low (mask_from f (suc i) m) (f i), low (mask_from g (suc i) m) (g i), and_from f g (suc i) m, digit_and (f i) (g i))
+    ∙ rw (
+      half (mask_from f (suc i) m) (f i),
+      half (mask_from g (suc i) m) (g i),
+      low (mask_from f (suc i) m) (f i),
+      low (mask_from g (suc i) m) (g i),
+      and_from f g (suc i) m,
+      digit_and (f i) (g i),
+    )
 
 pub mask_and : (f g : ℕ → Bool) (n : ℕ) → bit_and (mask_of n f) (mask_of n g) ≡ mask_of n (λ (k : ℕ). f k && g k)
 unfolding mask_of

@@ -1,4 +1,4 @@
-#![tactic(auto)]
+#![tactic(auto, unfolding(crate::specs::Match::match_level, crate::specs::Match::match_edge, crate::specs::Match::match_held, crate::specs::Match::match_change, crate::specs::Match::match_field, crate::specs::Match::is_edge, crate::specs::Match::result_of, value::specs::Value::same_value, value::specs::Value::rank_of))]
 
 ghost use Rattle.std.specs.Prelude.{◌≡◌};
 ghost use Rattle.symbol.specs.Match.{match_level, match_edge, match_held, match_change, match_field, is_edge, result_of};
@@ -28,7 +28,7 @@ pub enum Symbol {
 }
 
 // A row's output: 0, 1, x, or - for the old output.
-#[derive(Clone, Copy)]
+#[derive(Clone, Copy, PartialEq, Eq)]
 pub enum Output {
     Out0,
     Out1,
@@ -49,10 +49,10 @@ pub fn level_matches(l: Level, y: Ternary) -> bool
     ensures { result ≡ match_level l y }
 {
     match l {
-        Level::Zero => value::same(y, Ternary::ZERO),
-        Level::One => value::same(y, Ternary::ONE),
-        Level::Unknown => value::same(y, Ternary::X),
-        Level::Binary => value::same(y, Ternary::ZERO) | value::same(y, Ternary::ONE),
+        Level::Zero => y == Ternary::ZERO,
+        Level::One => y == Ternary::ONE,
+        Level::Unknown => y == Ternary::X,
+        Level::Binary => y == Ternary::ZERO || y == Ternary::ONE,
         Level::Any => true,
     }
 }
@@ -60,7 +60,7 @@ pub fn level_matches(l: Level, y: Ternary) -> bool
 fn edge_matches(v: Level, w: Level, before: Ternary, y: Ternary) -> bool
     ensures { result ≡ match_edge v w before y }
 {
-    !value::same(before, y) & (level_matches(v, before) & level_matches(w, y))
+    before != y && level_matches(v, before) && level_matches(w, y)
 }
 
 fn held_matches(s: Symbol, y: Ternary) -> bool
@@ -68,12 +68,7 @@ fn held_matches(s: Symbol, y: Ternary) -> bool
 {
     match s {
         Symbol::Held(l) => level_matches(l, y),
-        Symbol::Edge(_, _) => false,
-        Symbol::Rise => false,
-        Symbol::Fall => false,
-        Symbol::Positive => false,
-        Symbol::Negative => false,
-        Symbol::Every => false,
+        _ => false,
     }
 }
 
@@ -87,13 +82,13 @@ pub fn change_matches(s: Symbol, before: Ternary, y: Ternary) -> bool
         Symbol::Fall => edge_matches(Level::One, Level::Zero, before, y),
         Symbol::Positive => {
             edge_matches(Level::Zero, Level::One, before, y)
-                | (edge_matches(Level::Zero, Level::Unknown, before, y)
-                    | edge_matches(Level::Unknown, Level::One, before, y))
+                || edge_matches(Level::Zero, Level::Unknown, before, y)
+                || edge_matches(Level::Unknown, Level::One, before, y)
         }
         Symbol::Negative => {
             edge_matches(Level::One, Level::Zero, before, y)
-                | (edge_matches(Level::One, Level::Unknown, before, y)
-                    | edge_matches(Level::Unknown, Level::Zero, before, y))
+                || edge_matches(Level::One, Level::Unknown, before, y)
+                || edge_matches(Level::Unknown, Level::Zero, before, y)
         }
         Symbol::Every => edge_matches(Level::Any, Level::Any, before, y),
     }
@@ -103,29 +98,16 @@ pub fn matches(f: Field) -> bool
     ensures { result ≡ match_field f }
 {
     if f.considered {
-        let s = f.symbol;
-        let p = f.before;
-        let y = f.current;
-        change_matches(s, p, y)
+        change_matches(f.symbol, f.before, f.current)
     } else {
-        let s = f.symbol;
-        let y = f.current;
-        held_matches(s, y)
+        held_matches(f.symbol, f.current)
     }
 }
 
 pub fn is_edge(s: Symbol) -> bool
     ensures { result ≡ is_edge s }
 {
-    match s {
-        Symbol::Held(_) => false,
-        Symbol::Edge(_, _) => true,
-        Symbol::Rise => true,
-        Symbol::Fall => true,
-        Symbol::Positive => true,
-        Symbol::Negative => true,
-        Symbol::Every => true,
-    }
+    !matches!(s, Symbol::Held(_))
 }
 
 // What a row with this output answers.

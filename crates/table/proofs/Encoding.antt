@@ -67,7 +67,8 @@ unfolding row_byte
 decode_part a i k h g = rw (lt-ltb k (2 * length (row_at (decode a) i).symbols) (omega (arith, decode_columns a i h)))
 
 pub decode_behind : (a : List ℕ) (i k : ℕ) → i < length (decode a).rows → 2 * (decode a).inputs ≤ k
-    → row_byte (row_at (decode a) i) k ≡ cond (eqb k state_at) (level_byte (row_at (decode a) i).state) (cond (eqb k output_at) (output_byte (row_at (decode a) i).output) 0)
+    → row_byte (row_at (decode a) i) k
+    ≡ cond (eqb k state_at) (level_byte (row_at (decode a) i).state) (cond (eqb k output_at) (output_byte (row_at (decode a) i).output) 0)
 unfolding row_byte
 decode_behind a i k h g = rw (le-ltb k (2 * length (row_at (decode a) i).symbols) (omega (arith, decode_columns a i h)))
 
@@ -83,7 +84,14 @@ encode_at t p h = listed_at (area_byte t) area_size p 0 h
 pub rows_place : (t : Table) (p : ℕ) → rows_at ≤ p → area_byte t p ≡ rows_byte t (p - rows_at)
 unfolding area_byte
 rows_place t p h =
-    rw (le-ltb p name_at (omega arith), le-ltb p kind_at (omega arith), le-ltb p inputs_at (omega arith), le-ltb p start_at (omega arith), le-ltb p count_at (omega arith), le-ltb p rows_at h)
+    rw (
+      le-ltb p name_at (omega arith),
+      le-ltb p kind_at (omega arith),
+      le-ltb p inputs_at (omega arith),
+      le-ltb p start_at (omega arith),
+      le-ltb p count_at (omega arith),
+      le-ltb p rows_at h,
+    )
 
 row_byte_lem : (t : Table) (i k : ℕ) → Bounded t → i < length t.rows → k < row_size → get_or (encode t) (row_place i k) 0 ≡ row_byte (row_at t i) k
 unfolding rows_byte
@@ -164,13 +172,15 @@ module _ (t : Table) (s : Shaped t) where
     unfolding row_byte
     state_of_lem =
         let l = s.bounded.inputs in
-        rw (row_byte_lem t i state_at s.bounded h (omega arith), le-ltb state_at (2 * length (row_at t i).symbols) (omega (arith, s.columns i h))) (level_of_byte (row_at t i).state)
+        rw (row_byte_lem t i state_at s.bounded h (omega arith), le-ltb state_at (2 * length (row_at t i).symbols) (omega (arith, s.columns i h)))
+        (level_of_byte (row_at t i).state)
 
     output_of_lem : output_of (get_or (encode t) (row_place i output_at) 0) ≡ (row_at t i).output
     unfolding row_byte
     output_of_lem =
         let l = s.bounded.inputs in
-        rw (row_byte_lem t i output_at s.bounded h (omega arith), le-ltb output_at (2 * length (row_at t i).symbols) (omega (arith, s.columns i h))) (output_of_byte (row_at t i).output)
+        rw (row_byte_lem t i output_at s.bounded h (omega arith), le-ltb output_at (2 * length (row_at t i).symbols) (omega (arith, s.columns i h)))
+        (output_of_byte (row_at t i).output)
 
     row_of : row_in (encode t) i ≡ row_at t i
     unfolding row_in

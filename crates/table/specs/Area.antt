@@ -1,12 +1,10 @@
 -- How a table lies in an area: the one encoding.
-use Rattle.std.specs.Prelude.{ℕ, ◌+◌, ◌-◌, ◌*◌, ◌/◌, ◌%◌, Bool, true, false, cond, List, eqb, ltb, length, get_or, take, drop}
+use Rattle.std.specs.Prelude.{Option, None, Some, ℕ, ◌+◌, ◌-◌, ◌*◌, ◌/◌, ◌%◌, Bool, true, false, cond, List, eqb, ltb, length, get_or, take, drop}
 use Prim.Native.Char.{code}
 use Rattle.base.specs.Search.{every}
 use Rattle.base.specs.Listed.{listed}
 use Rattle.value.specs.declared.Ternary.{Ternary}
 use Rattle.value.specs.declared.Ternary.TheVariants.{Vx}
-use Rattle.value.specs.declared.Byte.{Byte}
-use Rattle.value.specs.declared.Byte.TheVariants.{Value, Other}
 use Rattle.value.specs.Value.{byte_of, read_byte}
 use Rattle.symbol.specs.declared.Symbol.{Symbol}
 use Rattle.stored.specs.Stored.{level_byte, level_of, symbol_byte, second_byte, symbol_of, output_byte, output_of}
@@ -58,9 +56,9 @@ row_in a i = record {
 }
 
 -- the value that a byte says, x where it says none
-unfoldable pub or_x : Byte → Ternary
-or_x (Value v) = v
-or_x Other = Vx
+unfoldable pub or_x : Option Ternary → Ternary
+or_x (Some v) = v
+or_x None = Vx
 
 -- the table that is read out of any bytes: past their end they count as zero
 unfoldable pub decode : List ℕ → Table

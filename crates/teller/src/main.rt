@@ -1,93 +1,45 @@
 #![tactic(auto)]
 
 // teller BOOK [NAME]: what a book holds, or the refusal of a damaged one.
-use book::Opened;
-use disk::Loaded;
 use std::rt::Env;
 
 // The longest path and name that are taken.
 const WORD: usize = 4096;
 
-// What standard output does not take is not told.
-fn print(to: &impl Print, words: &[u8]) {
-    let _ = to.write_all(words);
-}
-
-fn print_number(to: &impl Print, n: usize) {
-    let _ = to.print(n);
-}
-
-fn print_refusal(to: &impl Print, number: u8, place: usize) {
-    print(to, b"refused ");
-    print_number(to, base::wide(number));
-    print(to, b" at ");
-    print_number(to, place);
-    print(to, b"\n");
-}
-
-fn print_good(to: &impl Print, entries: usize, good: usize, torn: usize) {
-    print_number(to, entries);
-    print(to, b" entries, good length ");
-    print_number(to, good);
-    print(to, b", torn bytes ");
-    print_number(to, torn);
-    print(to, b"\n");
-}
-
-// The line without the space and the trailer at its end.
-fn trimmed(line: &[u8]) -> &[u8] {
-    if line.len() < 7 {
-        return text::part(line, 0, 0);
-    }
-    text::part(line, 0, line.len() - 7)
-}
-
-fn print_line(to: &impl Print, line: &[u8], k: usize) {
-    print_number(to, k);
-    print(to, b" ");
-    print(to, trimmed(line));
-    print(to, b"\n");
-}
+// What a line has behind its verdict: a space and the trailer. The LF is left out.
+const TRAILER: usize = 7;
 
 // The line's name is the one that is asked for, or none is.
 fn is_wanted(line: &[u8], name: &[u8]) -> bool {
-    if name.len() == 0 {
-        return true;
-    }
-    let e = files::next(line, b' ', 0);
-    text::same(text::part(line, 0, e), name)
+    name.is_empty() || text::part(line, 0, files::next(line, b' ', 0)) == name
 }
 
-fn print_entry(to: &impl Print, line: &[u8], k: usize, name: &[u8]) {
-    if is_wanted(line, name) {
-        print_line(to, line, k);
-    }
+// What standard output does not take is not told.
+fn print_line(to: &impl Print, line: &[u8], k: usize) {
+    let _ = print!(to; "{k} ");
+    let _ = to.write_all(&line[..line.len().saturating_sub(TRAILER)]);
+    let _ = println!(to; "");
 }
 
-#[tactic(auto, using(files::proofs::Parts::next_ge))]
-fn print_entries(to: &impl Print, book: &[u8], good: usize, name: &[u8]) {
-    let mut at: usize = 0;
-    let mut k: usize = 1;
-    while at < good {
-        let e = files::next(book, b'\n', at);
-        if book.len() <= e {
-            return;
+fn print_entries(to: &impl Print, lines: &[u8], name: &[u8]) {
+    for (k, line) in lines.split(|b| *b == b'\n').enumerate() {
+        if !line.is_empty() && is_wanted(line, name) {
+            print_line(to, line, k + 1);
         }
-        print_entry(to, &book[at..e], k, name);
-        at = e + 1;
-        k += 1;
     }
 }
 
 fn tell_book(to: &impl Print, book: &[u8], name: &[u8]) {
-    let o = book::open_book(book, book.len());
-    match o {
-        Opened::Book(g) => {
-            print_good(to, g.entries, g.good, g.torn);
-            print_entries(to, book, g.good, name);
+    match book::open_book(book, book.len()) {
+        Ok(found) => {
+            let _ = println!(to;
+                "{} entries, good length {}, torn bytes {}",
+                found.entries, found.good, found.torn
+            );
+            print_entries(to, text::part(book, 0, found.good), name);
         }
-        Opened::Refused(number, place) => {
-            print_refusal(to, number, place);
+        Err(refusal) => {
+            let _ = println!(to; "{refusal}");
         }
     }
 }
@@ -95,8 +47,7 @@ fn tell_book(to: &impl Print, book: &[u8], name: &[u8]) {
 // One byte more than a book may have is loaded, so that a longer file is refused and not cut short.
 fn tell(rt: &HostRuntime, path: &[u8], name: &[u8]) {
     let mut file = [0u8; base::BOOK + 1];
-    let l = disk::load(rt, path, &mut file);
-    let Loaded::Bytes(n) = l else {
+    let Ok(n) = disk::load(rt, path, &mut file) else {
         return;
     };
     tell_book(rt, &file[..n], name);

@@ -1,6 +1,6 @@
 -- Bytes at a place of a text. Assumes nothing.
 use mathlib.Core.Path.{◌≡◌, refl}
-use mathlib.Core.Option.{Option, none, some}
+use Rattle.std.specs.Prelude.{Result as Answer, Ok, Err, IsErrAnd}
 use mathlib.Core.Bool.{Bool, true, false, cond, ◌||◌}
 use mathlib.Core.List.{List, [], ◌∷◌}
 use Prim.Native.Nat.{ℕ, suc, ◌+◌, ◌≤◌, ◌<◌}
@@ -10,8 +10,23 @@ use lib.Dec.{T, eqb, eqb→eq}
 use borrow.Author.Tests.{eqb-true}
 use lib.ListN.{length, get_or, drop, drop_of_length-le}
 use lib.Seq.{drop-cons, drop-drop}
+use Rattle.refusal.specs.Refusal.{number_of}
+use Rattle.refusal.specs.declared.Refusal.{Refusal}
+use Rattle.refusal.specs.declared.Fault.TheVariants.{OpenComment, Unexpected}
 use Rattle.text.specs.Blanks.{begins, one}
-use Rattle.text.specs.Reader.{got, bind, give, byte, said, ahead, fault}
+use Rattle.text.specs.Places.{meant}
+use Rattle.text.specs.Reader.{got, refused, bind, give, byte, ahead, fault}
+
+-- what is not expected, by its number
+pub fault_is : (b : Bool) → number_of (cond b OpenComment Unexpected) ≡ cond b 2 3
+fault_is true = refl
+fault_is false = refl
+
+-- a refusal that is passed on by `?`
+pub passed_on : {T A : Type 0} (t : List ℕ) (end : T → ℕ) (f : T → A) (r : Answer T Refusal) (e : Refusal) → IsErrAnd r (λ x. x ≡ e)
+    → refused (number_of e.fault) e.place ≡ meant t end f r
+passed_on t end f (Ok x) e h = absurd h
+passed_on t end f (Err x) e h = rw h
 
 module _ (t : List ℕ) (i : ℕ) where
   pub mark_at : (c : ℕ) → byte (λ b. eqb b c) i (drop i t) ≡ cond (one c (drop i t)) (got c (i + 1) (drop (i + 1) t)) (fault i (drop i t))
@@ -49,34 +64,9 @@ pub ahead_is : (p : ℕ → Bool) (k : ℕ) (s : List ℕ) → ahead p k s ≡ g
 ahead_is p k [] = refl
 ahead_is p k (b ∷ l) = refl
 
-pub one_begins : (c : ℕ) (s : List ℕ) → one c s ≡ begins (λ b. eqb b c) s
-one_begins c [] = refl
-one_begins c (b ∷ l) = refl
-
 pub ahead_one : (c k : ℕ) (s : List ℕ) → ahead (λ b. eqb b c) k s ≡ got (one c s) k s
 ahead_one c k [] = refl
 ahead_one c k (b ∷ l) = refl
-
-pub begins_or : (p q : ℕ → Bool) (s : List ℕ) → begins (λ b. p b || q b) s ≡ (begins p s || begins q s)
-begins_or p q [] = refl
-begins_or p q (b ∷ l) = refl
-
-module _ (t : List ℕ) (i : ℕ) where
-  pub begins_cons : (p : ℕ → Bool) → i < length t → begins p (drop i t) ≡ p (get_or t i 0)
-  begins_cons p h = rw (drop-cons t i 0)
-
-  pub begins_nil : (p : ℕ → Bool) → length t ≤ i → begins p (drop i t) ≡ false
-  begins_nil p h = rw (drop_of_length-le t h)
-
-  module _ {A : Type 0} (f : ℕ → Option A) where
-    pub said_some : (a : A) → i < length t → some a ≡ f (get_or t i 0) → said f i (drop i t) ≡ got a (i + 1) (drop (i + 1) t)
-    said_some a h e = rw (add-one, drop-cons t i 0, ← e)
-
-    pub said_none : i < length t → none ≡ f (get_or t i 0) → said f i (drop i t) ≡ fault i (drop i t)
-    said_none h e = rw (drop-cons t i 0, ← e)
-
-    pub said_nil : length t ≤ i → said f i (drop i t) ≡ fault i (drop i t)
-    said_nil h = rw (drop_of_length-le t h)
 
 pub ahead_none : (k : ℕ) (s : List ℕ) → ahead (λ b. false) k s ≡ got false k s
 ahead_none k [] = refl

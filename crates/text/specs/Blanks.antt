@@ -1,6 +1,5 @@
 -- Blanks and comments: `//` to the LF or the text's end, and `/* */`.
-use Rattle.std.specs.Prelude.{List, [], ◌∷◌, Bool, true, false, cond, ◌&&◌, ℕ, suc, ◌+◌, eqb, drop}
-use Rattle.std.proofs.Math.Option.{Option, none, some}
+use Rattle.std.specs.Prelude.{List, [], ◌∷◌, Bool, false, cond, ◌&&◌, ℕ, suc, ◌+◌, eqb, drop, Option, None, Some, is_none}
 use Prim.Native.Char.{code}
 use Rattle.text.specs.Bytes.{is, is_blank}
 
@@ -24,16 +23,16 @@ to_line (b ∷ l) = cond (is b "\n") 0 (suc (to_line l))
 
 -- how many bytes there are up to and with `*/`
 abbrev pub more : Option ℕ → Option ℕ
-more none = none
-more (some m) = some (suc m)
+more None = None
+more (Some m) = Some (suc m)
 
 abbrev pub to_close : List ℕ → Option ℕ
-to_close [] = none
-to_close (b ∷ l) = cond (two (code "*") (code "/") (b ∷ l)) (some 2) (more (to_close l))
+to_close [] = None
+to_close (b ∷ l) = cond (two (code "*") (code "/") (b ∷ l)) (Some 2) (more (to_close l))
 
 abbrev pub closed : Option ℕ → ℕ
-closed none = 0
-closed (some m) = 2 + m
+closed None = 0
+closed (Some m) = 2 + m
 
 -- the length of the blank or the comment that a text begins with: 0 where it begins with neither, or with a comment without end
 abbrev pub gap : List ℕ → ℕ
@@ -42,10 +41,6 @@ gap (b ∷ l) =
     cond (is_blank b) 1
     (cond (two (code "/") (code "/") (b ∷ l)) (2 + to_line (drop 1 l))
     (cond (two (code "/") (code "*") (b ∷ l)) (closed (to_close (drop 1 l))) 0))
-
-abbrev pub is_none : Option ℕ → Bool
-is_none none = true
-is_none (some m) = false
 
 -- a text that begins with a comment without end
 abbrev pub endless : List ℕ → Bool

@@ -1,6 +1,5 @@
 -- Readers: what stands at a place is read, or refused. A reader gets the place and the bytes from there on.
-use Rattle.std.specs.Prelude.{List, [], ◌∷◌, Bool, true, false, cond, ◌||◌, ℕ, zero, suc, pred, eqb, leb, length}
-use Rattle.std.proofs.Math.Option.{Option, none, some}
+use Rattle.std.specs.Prelude.{List, [], ◌∷◌, Bool, true, false, cond, ◌||◌, ℕ, zero, suc, pred, eqb, leb, length, Option, None, Some}
 use Prim.Native.Char.{Char, code}
 use Rattle.base.specs.Limits.{name_limit}
 use Rattle.text.specs.Bytes.{in_name}
@@ -42,8 +41,8 @@ check true c p = give tt
 check false c p = refuse c p
 
 unfoldable pub need : {A : Type 0} → Option A → ℕ → ℕ → Reader A
-need none c p = refuse c p
-need (some a) c p = give a
+need None c p = refuse c p
+need (Some a) c p = give a
 
 unfoldable pub if : {A : Type 0} → Bool → Reader A → Reader A → Reader A
 if true m l = m
@@ -68,8 +67,8 @@ byte p k (b ∷ l) = cond (p b) (got b (suc k) l) (fault k (b ∷ l))
 
 -- one byte that says something
 abbrev pub said_by : {A : Type 0} → Option A → ℕ → ℕ → List ℕ → Result A
-said_by none k b l = fault k (b ∷ l)
-said_by (some a) k b l = got a (suc k) l
+said_by None k b l = fault k (b ∷ l)
+said_by (Some a) k b l = got a (suc k) l
 
 abbrev pub said : {A : Type 0} → (ℕ → Option A) → Reader A
 said f k [] = fault k []

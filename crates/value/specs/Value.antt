@@ -1,10 +1,8 @@
 -- The three values, ordered 0, 1, x.
-use Rattle.std.specs.Prelude.{ℕ, Bool, cond, eqb}
+use Rattle.std.specs.Prelude.{ℕ, Bool, Option, None, Some, cond, eqb}
 use Prim.Native.Char.{code}
 use Rattle.value.specs.declared.Ternary.{Ternary}
 use Rattle.value.specs.declared.Ternary.TheVariants.{V0, V1, Vx}
-use Rattle.value.specs.declared.Byte.{Byte}
-use Rattle.value.specs.declared.Byte.TheVariants.{Value, Other}
 
 -- the place of a value in the order
 unfoldable pub rank_of : Ternary → ℕ
@@ -26,5 +24,5 @@ byte_of V1 = code "1"
 byte_of Vx = code "x"
 
 -- what a byte says
-unfoldable pub read_byte : ℕ → Byte
-read_byte b = cond (eqb b (code "0")) (Value V0) (cond (eqb b (code "1")) (Value V1) (cond (eqb b (code "x")) (Value Vx) Other))
+unfoldable pub read_byte : ℕ → Option Ternary
+read_byte b = cond (eqb b (code "0")) (Some V0) (cond (eqb b (code "1")) (Some V1) (cond (eqb b (code "x")) (Some Vx) None))

@@ -1,22 +1,17 @@
-#![tactic(auto)]
+#![tactic(auto, unfolding(crate::specs::Value::rank_of, crate::specs::Value::value_of, crate::specs::Value::byte_of, crate::specs::Value::read_byte))]
 
 ghost use Rattle.std.specs.Prelude.{◌≡◌};
-ghost use Rattle.value.specs.Value.{rank_of, value_of, same_value, byte_of, read_byte};
+ghost use Rattle.value.specs.Value.{rank_of, value_of, byte_of, read_byte};
 
-#[derive(Clone, Copy)]
+// The three values in their order; each has its rank as its number.
+#[derive(Clone, Copy, PartialEq, Eq)]
 pub enum Ternary {
-    V0,
-    V1,
-    Vx,
+    V0 = 0,
+    V1 = 1,
+    Vx = 2,
 }
 
-// What a text byte says: a value, or none.
-#[derive(Clone, Copy)]
-pub enum Byte {
-    Value(Ternary),
-    Other,
-}
-
+// Stays: a value has two numbers, its rank and its byte, and From and TryFrom have no name that says which.
 impl Ternary {
     pub const ZERO: Ternary = Ternary::V0;
 
@@ -24,7 +19,6 @@ impl Ternary {
 
     pub const X: Ternary = Ternary::Vx;
 
-    #[tactic(auto, unfolding(crate::specs::Value::value_of))]
     pub fn from_rank(k: usize) -> Ternary
         ensures { result ≡ value_of k }
     {
@@ -35,30 +29,24 @@ impl Ternary {
         }
     }
 
-    #[tactic(auto, unfolding(crate::specs::Value::rank_of))]
     pub fn to_rank(self) -> usize
         ensures { result ≡ rank_of self }
     {
-        match self {
-            Ternary::V0 => 0,
-            Ternary::V1 => 1,
-            Ternary::Vx => 2,
-        }
+        self as usize
     }
 
-    #[tactic(auto, unfolding(crate::specs::Value::read_byte))]
-    pub fn from_byte(b: u8) -> Byte
+    // The value that a byte says, where it says one.
+    pub fn from_byte(b: u8) -> Option<Ternary>
         ensures { result ≡ read_byte b }
     {
         match b {
-            b'0' => Byte::Value(Ternary::ZERO),
-            b'1' => Byte::Value(Ternary::ONE),
-            b'x' => Byte::Value(Ternary::X),
-            _ => Byte::Other,
+            b'0' => Some(Ternary::ZERO),
+            b'1' => Some(Ternary::ONE),
+            b'x' => Some(Ternary::X),
+            _ => None,
         }
     }
 
-    #[tactic(auto, unfolding(crate::specs::Value::byte_of))]
     pub fn to_byte(self) -> u8
         ensures { result ≡ byte_of self }
     {
@@ -68,11 +56,4 @@ impl Ternary {
             Ternary::Vx => b'x',
         }
     }
-}
-
-#[tactic(auto, unfolding(crate::specs::Value::same_value))]
-pub fn same(a: Ternary, b: Ternary) -> bool
-    ensures { result ≡ same_value a b }
-{
-    a.to_rank() == b.to_rank()
 }

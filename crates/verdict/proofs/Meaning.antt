@@ -135,8 +135,8 @@ witness_same n v w s t e =
 pub meant_once : (n : ℕ) (f g : Finding) → SoundFinding n f → SoundFinding n g → meant n f ≡ meant n g → f ≡ g
 unfolding meant
 meant_once n Independent Independent s t e = refl
-meant_once n Independent (Dependent w) s t e = absurd (let z : ◌≡◌ {A = ℕ} 0 1 = cc in omega arith)
-meant_once n (Dependent v) Independent s t e = absurd (let z : ◌≡◌ {A = ℕ} 0 1 = cc in omega arith)
+meant_once n Independent (Dependent w) s t e = absurd (cc)
+meant_once n (Dependent v) Independent s t e = absurd (cc)
 meant_once n (Dependent v) (Dependent w) s t e =
     let q : shown n v ≡ shown n w = cc in
     ap Dependent (witness_same n v w s t q)

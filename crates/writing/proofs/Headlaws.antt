@@ -1,55 +1,116 @@
 -- What the tests before writing tell. Assumes nothing.
 use Prim.Native.Nat.{ℕ, ◌+◌, ◌-◌, ◌/◌, ◌≤◌, ◌<◌}
-use mathlib.Core.Path.{◌≡◌, sym, ap, ◌∙◌}
+use mathlib.Core.Path.{◌≡◌, refl, sym, ◌∙◌}
 use mathlib.Core.Bool.{Bool, true}
 use mathlib.Core.List.{List}
 use mathlib.Core.Logic.{⊎_elim}
 use native.Mathlib.Omega.{arith}
 use lib.Dec.{eqb, leb, ltb}
-use lib.ListN.{length, get_or, set}
-use lib.Seq.{get_or-take}
+use lib.ListN.{length, get_or, set, replicate, length-set, length-replicate, get_or-eq_default}
+use lib.Seq.{get_or-set_same, get_or-set_other}
+use borrow.Rule.Slice.PartMut.{put_mid}
 use borrow.Author.Tests.{lt-ltb, le-ltb, eqb-true, leb-true, ltb-true}
 use Rattle.base.specs.Limits.{input_limit, row_limit, name_limit}
 use Rattle.base.proofs.Bools.{both, lt_or_ge}
-use Rattle.base.proofs.Listed.{Filled, listed_at, listed_is}
-use Rattle.base.proofs.Patched.{Patched, patched_none, patched_more}
+use Rattle.base.proofs.Listed.{listed_is}
+use Rattle.base.proofs.Patched.{Patched, patched_mid}
+use Rattle.base.proofs.Lists.{zeros_at}
 use Rattle.table.specs.Places.{name_at, kind_at, inputs_at, start_at, count_at, rows_at, row_size, area_size}
-use Rattle.table.specs.Area.{area_byte, rows_byte, encode}
+use Rattle.table.specs.Area.{kind_byte, area_byte, rows_byte, encode}
+use Rattle.value.specs.Value.{byte_of}
 use Rattle.value.specs.declared.Ternary.{Ternary}
 use Rattle.writing.specs.Written.{head_of, head_fits, has_room}
 
 -- behind the starting value a table without rows has zeros
-pub past_head : (name : List ℕ) (sequential : Bool) (inputs : ℕ) (start : Ternary) (p : ℕ) → count_at ≤ p → area_byte (head_of name sequential inputs start) p ≡ 0
+pub past_head : (name : List ℕ) (sequential : Bool) (inputs : ℕ) (start : Ternary) (p : ℕ) → count_at ≤ p
+    → area_byte (head_of name sequential inputs start) p ≡ 0
 unfolding area_byte rows_byte head_of
 past_head name sequential inputs start p h =
     rw (le-ltb p name_at (omega arith), le-ltb p kind_at (omega arith), le-ltb p inputs_at (omega arith), le-ltb p start_at (omega arith), le-ltb p count_at h)
-    (⊎_elim (λ (l : p < rows_at). rw (lt-ltb p rows_at l)) (λ (g : rows_at ≤ p). rw (le-ltb p rows_at g, le-ltb ((p - rows_at) / row_size) 0 (omega arith))) (lt_or_ge p rows_at))
+    (⊎_elim (λ (l : p < rows_at). rw (lt-ltb p rows_at l))
+    (λ (g : rows_at ≤ p). rw (le-ltb p rows_at g, le-ltb ((p - rows_at) / row_size) 0 (omega arith))) (lt_or_ge p rows_at))
 
--- a turn of a loop that goes on from s
-pub patched_next : (f : ℕ → ℕ) (b s k p x : ℕ) (a l : List ℕ) → s ≤ k → b + (k - s) ≡ p → p < length a → x ≡ f (k - s)
-    → Patched f b a l (k - s) → Patched f b a (set l p x) (k + 1 - s)
-patched_next f b s k p x a l h e g v w =
-    let d : k + 1 - s ≡ k - s + 1 = omega arith in
-    rw (d, ← e) (patched_more f b a l (k - s) x (omega arith) v w)
+-- ---- what write_head leaves
+module _ (name : List ℕ) (sequential : Bool) (inputs : ℕ) (start : Ternary) (short : length name ≤ name_limit) where
+  abbrev n : ℕ
+  n = length name
 
-pub patched_from : (f : ℕ → ℕ) (b s : ℕ) (a : List ℕ) → Patched f b a a (s - s)
-patched_from f b s a = let e : s - s ≡ 0 = omega arith in rw e (patched_none f b a)
+  -- zeros with the name's length, then with the name, then with the kind, the number of inputs and the starting value
+  abbrev sized : List ℕ
+  sized = set (replicate area_size 0) 0 n
 
--- the head is written first, then zeros
-pub head_left : (name : List ℕ) (sequential : Bool) (inputs : ℕ) (start : Ternary) (a l : List ℕ)
-    → Filled (area_byte (head_of name sequential inputs start)) area_size a count_at → Patched (λ m. 0) count_at a l (area_size - count_at)
-    → l ≡ encode (head_of name sequential inputs start)
-unfolding encode
-head_left name sequential inputs start a l f w = sym (listed_is (area_byte (head_of name sequential inputs start)) area_size l 0 (w.long ∙ f.long) place)
-  where
-    place : (p : ℕ) → p < area_size → area_byte (head_of name sequential inputs start) p ≡ get_or l p 0
-    place p h =
-        ⊎_elim
-        (λ (g : p < count_at). sym (w.below p g ∙ sym (get_or-take count_at a p 0 g) ∙ ap (λ (x : List ℕ). get_or x p 0) f.front ∙ listed_at (area_byte (head_of name sequential inputs start)) count_at p 0 g))
-        (λ (g : count_at ≤ p).
-        let e : count_at + (p - count_at) ≡ p = omega arith in
-        past_head name sequential inputs start p g ∙ sym (rw e at (w.inside (p - count_at) (omega arith))))
-        (lt_or_ge p count_at)
+  abbrev named : List ℕ
+  named = put_mid 1 n sized name
+
+  abbrev kinded : List ℕ
+  kinded = set named kind_at (kind_byte sequential)
+
+  abbrev numbered : List ℕ
+  numbered = set kinded inputs_at inputs
+
+  abbrev pub head_left : List ℕ
+  head_left = set numbered start_at (byte_of start)
+
+  sized_length : length sized ≡ area_size
+  sized_length = length-set (replicate area_size 0) 0 n ∙ length-replicate {A = ℕ} area_size 0
+
+  sized_at : (p : ℕ) → 0 < p → get_or sized p 0 ≡ 0
+  sized_at p h = get_or-set_other (replicate area_size 0) 0 p n 0 (λ e. omega arith) ∙ zeros_at area_size p
+
+  named_is : Patched (λ m. get_or name m 0) 1 sized named n
+  named_is = patched_mid 1 n sized name (omega (arith, sized_length)) refl
+
+  named_length : length named ≡ area_size
+  named_length = named_is.long ∙ sized_length
+
+  head_length : length head_left ≡ area_size
+  head_length = simp length-set named_length
+
+  other_at : (p : ℕ) → (p ≡ kind_at → ⊥) → (p ≡ inputs_at → ⊥) → (p ≡ start_at → ⊥) → get_or head_left p 0 ≡ get_or named p 0
+  other_at p e f g = get_or-set_other numbered start_at p (byte_of start) 0 g ∙ get_or-set_other kinded inputs_at p inputs 0 f
+      ∙ get_or-set_other named kind_at p (kind_byte sequential) 0 e
+
+  past_name : (p : ℕ) → 1 + n ≤ p → get_or named p 0 ≡ 0
+  past_name p h = named_is.above p h ∙ sized_at p (omega arith)
+
+  in_name : (p : ℕ) → name_at ≤ p → get_or named p 0 ≡ get_or name (p - name_at) 0
+  in_name p h =
+      let q : 1 + (p - name_at) ≡ p = omega arith in
+      ⊎_elim (λ (l : p - name_at < n). rw q at (named_is.inside (p - name_at) l))
+      (λ (g : n ≤ p - name_at). past_name p (omega arith) ∙ sym (get_or-eq_default name 0 g)) (lt_or_ge (p - name_at) n)
+
+  kind_lem : get_or head_left kind_at 0 ≡ kind_byte sequential
+  kind_lem =
+      get_or-set_other numbered start_at kind_at (byte_of start) 0 (λ e. omega arith)
+      ∙ get_or-set_other kinded inputs_at kind_at inputs 0 (λ e. omega arith)
+      ∙ get_or-set_same named kind_at (kind_byte sequential) 0 (omega (arith, named_length))
+
+  inputs_lem : get_or head_left inputs_at 0 ≡ inputs
+  inputs_lem =
+      get_or-set_other numbered start_at inputs_at (byte_of start) 0 (λ e. omega arith)
+      ∙ get_or-set_same kinded inputs_at inputs 0 (simp length-set (omega (arith, named_length)))
+
+  start_lem : get_or head_left start_at 0 ≡ byte_of start
+  start_lem = get_or-set_same numbered start_at (byte_of start) 0 (simp length-set (omega (arith, named_length)))
+
+  place : (p : ℕ) → p < area_size → area_byte (head_of name sequential inputs start) p ≡ get_or head_left p 0
+  unfolding area_byte head_of
+  place p h =
+      ⊎_elim (λ (l : p < name_at). let q : p ≡ 0 = omega arith in
+      rw q (sym (other_at 0 (λ e. omega arith) (λ e. omega arith) (λ e. omega arith) ∙ named_is.below 0 (omega arith)
+      ∙ get_or-set_same (replicate area_size 0) 0 n 0 (omega (arith, length-replicate {A = ℕ} area_size 0)))))
+      (λ (g : name_at ≤ p). ⊎_elim (λ (l : p < kind_at).
+      rw (le-ltb p name_at g, lt-ltb p kind_at l) (sym (other_at p (λ e. omega arith) (λ e. omega arith) (λ e. omega arith) ∙ in_name p g)))
+      (λ (g : kind_at ≤ p). ⊎_elim (λ (l : p < inputs_at). let q : p ≡ kind_at = omega arith in rw q (sym kind_lem))
+      (λ (g : inputs_at ≤ p). ⊎_elim (λ (l : p < start_at). let q : p ≡ inputs_at = omega arith in rw q (sym inputs_lem))
+      (λ (g : start_at ≤ p). ⊎_elim (λ (l : p < count_at). let q : p ≡ start_at = omega arith in rw q (sym start_lem))
+      (λ (g : count_at ≤ p).
+      past_head name sequential inputs start p g ∙ sym (other_at p (λ e. omega arith) (λ e. omega arith) (λ e. omega arith) ∙ past_name p (omega arith)))
+      (lt_or_ge p count_at)) (lt_or_ge p start_at)) (lt_or_ge p inputs_at)) (lt_or_ge p kind_at)) (lt_or_ge p name_at)
+
+  pub head_is : head_left ≡ encode (head_of name sequential inputs start)
+  unfolding encode
+  head_is = sym (listed_is (area_byte (head_of name sequential inputs start)) area_size head_left 0 head_length place)
 
 pub record Fits (a name : List ℕ) (inputs : ℕ) : Type 0 where
   pub long : length a ≡ area_size

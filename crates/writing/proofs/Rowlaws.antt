@@ -1,72 +1,102 @@
 -- A row added to an encoded table gives the encoding of the table with that row. Assumes nothing.
-use Prim.Native.Nat.{ℕ, zero, suc, ◌+◌, ◌-◌, ◌*◌, ◌/◌, ◌%◌, ◌≤◌, ◌<◌}
+use Prim.Native.Nat.{ℕ, ◌+◌, ◌-◌, ◌*◌, ◌/◌, ◌%◌, ◌≤◌, ◌<◌}
 use mathlib.Core.Path.{◌≡◌, refl, sym, ap, ◌∙◌}
 use mathlib.Core.Bool.{Bool, true, false, cond}
 use mathlib.Core.List.{List, [], ◌∷◌}
 use mathlib.Core.Logic.{⊎_elim}
 use native.Mathlib.Omega.{arith}
 use lib.Dec.{eqb}
-use lib.ListN.{length, get_or, set, length-set, take, length-take, length-append, get_or-append}
-use lib.Seq.{get_or_at, get_or-take, get_or-set_same, get_or-set_other}
+use lib.ListN.{length, get_or, set, replicate, length-set, length-append, get_or-append}
+use lib.Seq.{get_or_at, get_or-set_same, get_or-set_other}
 use borrow.Author.Tests.{lt-ltb, le-ltb, le-leb, lt-leb, eqb-true, eqb-false, eq-eqb, ne_eqb}
 use Rattle.base.specs.Limits.{row_limit, input_limit}
 use Rattle.base.proofs.Bools.{and, lt_or_ge}
 use Rattle.base.specs.Listed.{listed}
 use Rattle.base.proofs.Listed.{listed_is}
 use Rattle.base.proofs.Patched.{Patched}
-use Rattle.symbol.specs.declared.Level.{Level}
-use Rattle.symbol.specs.declared.Level.TheVariants.{Any, Zero}
-use Rattle.symbol.specs.declared.Symbol.{Symbol}
-use Rattle.symbol.specs.declared.Symbol.TheVariants.{Held}
-use Rattle.symbol.specs.declared.Output.{Output}
-use Rattle.table.specs.Places.{inputs_at, count_at, rows_at, row_size, area_size, row_place}
+use Rattle.base.proofs.Lists.{zeros_at}
+use Rattle.stored.specs.Stored.{level_byte, symbol_byte, second_byte, output_byte}
+use Rattle.table.specs.Places.{inputs_at, count_at, rows_at, state_at, output_at, row_size, area_size, row_place}
 use Rattle.table.specs.Table.{Row, Table, Shaped, row_at, symbol_at, no_row, with_row}
 use Rattle.table.specs.Area.{symbol_part, row_byte, rows_byte, area_byte, encode}
 use Rattle.table.proofs.Encoding.{encode_length, encode_at, rows_place, inputs_of, count_of}
-use Rattle.writing.specs.Written.{row_from, last_byte, has_room, added_byte, row_written}
+use Rattle.writing.specs.Written.{has_room, added_byte, row_written}
 
--- ---- the row that an array's first symbols make
-default_same : {A : Type 0} (l : List A) (k : ℕ) (d e : A) → k < length l → get_or l k d ≡ get_or l k e
-default_same [] k d e h = absurd (omega arith)
-default_same (x ∷ l) zero d e h = refl
-default_same (x ∷ l) (suc k) d e h = default_same l k d e (omega arith)
+-- ---- what fill_row leaves
+module _ (r : Row) where
+  -- the first k columns are written, and zeros stand behind them
+  pub record Columns (l : List ℕ) (k : ℕ) : Type 0 where
+    pub long : length l ≡ row_size
+    pub written : (p : ℕ) → p < 2 * k → get_or l p 0 ≡ row_byte r p
+    pub zeros : (p : ℕ) → 2 * k ≤ p → get_or l p 0 ≡ 0
 
-module _ (n : ℕ) (l : List Symbol) (state : Level) (output : Output) (fits : n ≤ length l) where
-  from_length : length (row_from n l state output).symbols ≡ n
-  unfolding row_from
-  from_length = simp length-take (omega arith)
+  pub columns_none : (l : List ℕ) → l ≡ replicate row_size 0 → Columns l 0
+  columns_none l e = record { long = rw e; written = λ p h. absurd (omega arith); zeros = λ p h. rw e (zeros_at row_size p) }
 
-  from_symbol : (m : ℕ) → m < n → symbol_at (row_from n l state output) m ≡ get_or l m (Held Zero)
-  unfolding row_from
-  from_symbol m g = get_or-take n l m (Held Any) g ∙ default_same l m (Held Any) (Held Zero) (omega arith)
+  first_byte : (k : ℕ) → k < length r.symbols → symbol_byte (symbol_at r k) ≡ row_byte r (2 * k)
+  unfolding row_byte symbol_part
+  first_byte k h =
+      let q : 2 * k / 2 ≡ k = omega arith in
+      let m : 2 * k % 2 ≡ 0 = omega arith in
+      rw (lt-ltb (2 * k) (2 * length r.symbols) (omega arith), q, m)
 
-  pub from_part : (k : ℕ) → k < 2 * n → row_byte (row_from n l state output) k ≡ symbol_part (get_or l (k / 2) (Held Zero)) (k % 2)
+  next_byte : (k : ℕ) → k < length r.symbols → second_byte (symbol_at r k) ≡ row_byte r (2 * k + 1)
+  unfolding row_byte symbol_part
+  next_byte k h =
+      let q : (2 * k + 1) / 2 ≡ k = omega arith in
+      let m : (2 * k + 1) % 2 ≡ 1 = omega arith in
+      rw (lt-ltb (2 * k + 1) (2 * length r.symbols) (omega arith), q, m)
+
+  pub columns_more : (l : List ℕ) (k x y : ℕ) → k < length r.symbols → length r.symbols ≤ input_limit
+      → x ≡ symbol_byte (symbol_at r k) → y ≡ second_byte (symbol_at r k) → Columns l k → Columns (set (set l (2 * k) x) (2 * k + 1) y) (k + 1)
+  columns_more l k x y h few e f w =
+      let outer : (p : ℕ) → (p ≡ 2 * k + 1 → ⊥) → get_or (set (set l (2 * k) x) (2 * k + 1) y) p 0 ≡ get_or (set l (2 * k) x) p 0
+      = λ p g. get_or-set_other (set l (2 * k) x) (2 * k + 1) p y 0 g in
+      let inner : (p : ℕ) → (p ≡ 2 * k → ⊥) → get_or (set l (2 * k) x) p 0 ≡ get_or l p 0 = λ p g. get_or-set_other l (2 * k) p x 0 g in
+      record {
+        long = simp length-set w.long;
+        written = λ p g. ⊎_elim
+            (λ (a : p < 2 * k). outer p (λ q. omega arith) ∙ inner p (λ q. omega arith) ∙ w.written p a)
+            (λ (a : 2 * k ≤ p). ⊎_elim
+            (λ (b : p < 2 * k + 1). let q : p ≡ 2 * k = omega arith in
+            rw q (outer (2 * k) (λ z. omega arith) ∙ get_or-set_same l (2 * k) x 0 (omega (arith, w.long)) ∙ e ∙ first_byte k h))
+            (λ (b : 2 * k + 1 ≤ p). let q : p ≡ 2 * k + 1 = omega arith in
+            rw q (get_or-set_same (set l (2 * k) x) (2 * k + 1) y 0 (simp length-set (omega (arith, w.long))) ∙ f ∙ next_byte k h))
+            (lt_or_ge p (2 * k + 1)))
+            (lt_or_ge p (2 * k));
+        zeros = λ p g. outer p (λ q. omega arith) ∙ inner p (λ q. omega arith) ∙ w.zeros p (omega arith);
+      }
+
+  behind : (p : ℕ) → 2 * length r.symbols ≤ p → row_byte r p ≡ cond (eqb p state_at) (level_byte r.state) (cond (eqb p output_at) (output_byte r.output) 0)
   unfolding row_byte
-  from_part k h =
-      rw (lt-ltb k (2 * length (row_from n l state output).symbols) (omega (arith, from_length)))
-      (ap (λ (s : Symbol). symbol_part s (k % 2)) (from_symbol (k / 2) (omega arith)))
+  behind p h = rw (le-ltb p (2 * length r.symbols) h)
 
-  from_behind : (k : ℕ) → 2 * n ≤ k → row_byte (row_from n l state output) k ≡ last_byte state output k
-  unfolding row_byte row_from last_byte
-  from_behind k h = rw (le-ltb k (2 * length (take n l)) (omega (arith, from_length)))
+  module _ (l : List ℕ) (few : length r.symbols ≤ input_limit) (w : Columns l (length r.symbols)) where
+    abbrev x : ℕ
+    x = level_byte r.state
 
-  -- the columns are written first, then what stands behind them
-  pub row_patched : (a c d : List ℕ) (b : ℕ) → n ≤ input_limit → Patched (row_byte (row_from n l state output)) b a c (2 * n)
-      → Patched (λ m. last_byte state output (2 * n + m)) (b + 2 * n) c d (row_size - 2 * n) → Patched (row_byte (row_from n l state output)) b a d row_size
-  row_patched a c d b few v w = record {
-    long = w.long ∙ v.long;
-    inside = λ m h. ⊎_elim
-        (λ (g : m < 2 * n). w.below (b + m) (omega arith) ∙ v.inside m g)
-        (λ (g : 2 * n ≤ m).
-        let e : 2 * n + (m - 2 * n) ≡ m = omega arith in
-        let f : b + 2 * n + (m - 2 * n) ≡ b + m = omega arith in
-        (rw (e, f) at (w.inside (m - 2 * n) (omega arith))) ∙ sym (from_behind m g))
-        (lt_or_ge m (2 * n));
-    below = λ p h. w.below p (omega arith) ∙ v.below p h;
-    above = λ p h. w.above p (omega arith) ∙ v.above p (omega arith);
-  }
+    abbrev y : ℕ
+    y = output_byte r.output
 
--- ---- what the loops of write_row leave
+    filled_place : (p : ℕ) → p < row_size → row_byte r p ≡ get_or (set (set l state_at x) output_at y) p 0
+    filled_place p h =
+        let outer : (p ≡ output_at → ⊥) → get_or (set (set l state_at x) output_at y) p 0 ≡ get_or (set l state_at x) p 0
+        = get_or-set_other (set l state_at x) output_at p y 0 in
+        let inner : (p ≡ state_at → ⊥) → get_or (set l state_at x) p 0 ≡ get_or l p 0 = get_or-set_other l state_at p x 0 in
+        ⊎_elim (λ (g : p < 2 * length r.symbols). sym (outer (λ e. omega arith) ∙ inner (λ e. omega arith) ∙ w.written p g))
+        (λ (g : 2 * length r.symbols ≤ p). behind p g ∙ ⊎_elim (λ (b : p < state_at).
+        rw (ne_eqb p state_at (λ e. omega arith), ne_eqb p output_at (λ e. omega arith))
+        (sym (outer (λ e. omega arith) ∙ inner (λ e. omega arith) ∙ w.zeros p g)))
+        (λ (b : state_at ≤ p). ⊎_elim (λ (d : p < output_at). let q : p ≡ state_at = omega arith in
+        rw q (sym (get_or-set_other (set l state_at x) output_at state_at y 0 (λ e. omega arith) ∙ get_or-set_same l state_at x 0 (omega (arith, w.long)))))
+        (λ (d : output_at ≤ p). let q : p ≡ output_at = omega arith in
+        rw q (sym (get_or-set_same (set l state_at x) output_at y 0 (simp length-set (omega (arith, w.long))))))
+        (lt_or_ge p output_at)) (lt_or_ge p state_at)) (lt_or_ge p (2 * length r.symbols))
+
+    pub row_filled : set (set l state_at x) output_at y ≡ listed (row_byte r) row_size
+    row_filled = sym (listed_is (row_byte r) row_size (set (set l state_at x) output_at y) 0 (simp length-set w.long) filled_place)
+
+-- ---- what write_row leaves
 module _ (a l : List ℕ) (r : Row) (long : length a ≡ area_size) (few : get_or a count_at 0 < row_limit)
     (w : Patched (row_byte r) (rows_at + get_or a count_at 0 * row_size) a l row_size) where
   abbrev b : ℕ
@@ -84,7 +114,8 @@ module _ (a l : List ℕ) (r : Row) (long : length a ≡ area_size) (few : get_o
   unfolding added_byte
   behind_row p h = rw (le-leb b p (omega arith), le-ltb p (b + row_size) h, ne_eqb p count_at (λ e. omega arith))
 
-  place_by : (p : ℕ) → p < b → (t : Bool) → eqb p count_at ≡ t → get_or (set l count_at (get_or l count_at 0 + 1)) p 0 ≡ cond t (get_or a count_at 0 + 1) (get_or a p 0)
+  place_by : (p : ℕ) → p < b → (t : Bool) → eqb p count_at ≡ t → get_or (set l count_at (get_or l count_at 0 + 1)) p 0
+      ≡ cond t (get_or a count_at 0 + 1) (get_or a p 0)
   place_by p h true e =
       let q : p ≡ count_at = eqb-true _ _ e in
       rw (q, get_or-set_same l count_at (get_or l count_at 0 + 1) 0 (omega (arith, w.long)), w.below count_at (omega arith))
@@ -194,7 +225,8 @@ module _ (t : Table) (r : Row) where
     unfolding has_room
     room_is =
         and (eq-eqb _ _ (encode_length t))
-        (and (le-leb (get_or (encode t) inputs_at 0) input_limit (omega (arith, inputs_of t s, s.bounded.inputs))) (lt-ltb (get_or (encode t) count_at 0) row_limit (omega (arith, count_of t s))))
+        (and (le-leb (get_or (encode t) inputs_at 0) input_limit (omega (arith, inputs_of t s, s.bounded.inputs)))
+        (lt-ltb (get_or (encode t) count_at 0) row_limit (omega (arith, count_of t s))))
 
     pub row_written_lem : row_written (encode t) r ≡ encode (with_row t r)
     unfolding row_written encode

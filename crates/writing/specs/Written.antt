@@ -6,8 +6,7 @@ use Rattle.value.specs.declared.Ternary.{Ternary}
 use Rattle.symbol.specs.declared.Level.{Level}
 use Rattle.symbol.specs.declared.Symbol.{Symbol}
 use Rattle.symbol.specs.declared.Output.{Output}
-use Rattle.stored.specs.Stored.{level_byte, output_byte}
-use Rattle.table.specs.Places.{inputs_at, count_at, state_at, output_at, row_size, area_size, row_place}
+use Rattle.table.specs.Places.{inputs_at, count_at, row_size, area_size, row_place}
 use Rattle.table.specs.Table.{Row, Table}
 use Rattle.table.specs.Area.{row_byte, encode}
 
@@ -25,10 +24,6 @@ head_written a t = cond (head_fits a t.name t.inputs) (encode t) a
 -- the row that the first n of some symbols make
 unfoldable pub row_from : ℕ → List Symbol → Level → Output → Row
 row_from n l state output = record { symbols = take n l; state = state; output = output }
-
--- place k of a row, behind its columns
-unfoldable pub last_byte : Level → Output → ℕ → ℕ
-last_byte state output k = cond (eqb k state_at) (level_byte state) (cond (eqb k output_at) (output_byte output) 0)
 
 -- an area that has room for one row more
 unfoldable pub has_room : List ℕ → Bool

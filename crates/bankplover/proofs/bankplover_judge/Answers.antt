@@ -1,8 +1,8 @@
-use Rattle.bankplover.specs.Judges.{judged, refused}
+use Rattle.bankplover.specs.Judges.{judged, unjudged}
 use Rattle.bankplover.proofs.bankplover_judge.Goals as goal
 
-pub returns-in-Found : goal.returns-in-Found
-returns-in-Found c = let e = rw c.in-Found.is at c.judge-j.ensures in rw (c.wide.ensures, c.letter_of.ensures, c.witness_numbers.ensures) (judged _ e.0 e.1)
+pub returns-in-Ok : goal.returns-in-Ok
+returns-in-Ok c = rw (c.from.ensures, c.letter_of.ensures, c.witness_numbers.ensures) (judged _ c.in-Ok.ensures.0 c.in-Ok.ensures.1)
 
-pub returns-in-Refused : goal.returns-in-Refused
-returns-in-Refused c = let e = rw c.in-Refused.is at c.judge-j.ensures in rw (e.1, e.2) (refused e.0)
+pub returns-in-Err : goal.returns-in-Err
+returns-in-Err c = let e = c.in-Err.ensures in rw (c.refuse.ensures.number, c.refuse.ensures.told, e.1) (unjudged e.0)

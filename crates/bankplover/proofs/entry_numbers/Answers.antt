@@ -1,11 +1,7 @@
-use Rattle.base.proofs.Listed.{filled_none, filled_more, filled_all}
+use Rattle.base.specs.Listed.{listed}
+use Rattle.bankplover.specs.Books.{entry_number}
 use Rattle.bankplover.proofs.entry_numbers.Goals as goal
 
-pub loop-k-init : goal.loop-k-init
-loop-k-init c = filled_none _ 13 _
-
-pub loop-k-preserved : goal.loop-k-preserved
-loop-k-preserved c = filled_more _ 13 _ _ _ c.loop-k-test.true c.entry_number.ensures c.loop-k.invariant
-
 pub returns : goal.returns
-returns c = filled_all _ 13 _ _ c.loop-k-test.false c.loop-k.invariant
+unfolding entry_number listed
+returns c = rw (c.from-letter.ensures, c.letter_of.ensures, c.witness_numbers.ensures)

@@ -1,11 +1,26 @@
-use Rattle.base.proofs.Listed.{filled_none, filled_more, filled_all}
+use Rattle.base.specs.Listed.{listed}
+use Rattle.bankplover.specs.Books.{witness_number}
 use Rattle.bankplover.proofs.witness_numbers.Goals as goal
 
-pub loop-k-init : goal.loop-k-init
-loop-k-init c = filled_none _ 8 _
+pub returns-in-Independent : goal.returns-in-Independent
+unfolding witness_number listed
+returns-in-Independent c = rw c.in-Independent.is
 
-pub loop-k-preserved : goal.loop-k-preserved
-loop-k-preserved c = filled_more _ 8 _ _ _ c.loop-k-test.true c.witness_number.ensures c.loop-k.invariant
-
-pub returns : goal.returns
-returns c = filled_all _ 8 _ _ c.loop-k-test.false c.loop-k.invariant
+pub returns-in-Dependent : goal.returns-in-Dependent
+unfolding witness_number listed
+returns-in-Dependent c =
+    rw (
+      c.in-Dependent.is,
+      c.from.ensures,
+      c.from-in-Dependent.ensures,
+      c.from-in-Dependent-2.ensures,
+      c.from-in-Dependent-3.ensures,
+      c.from-in-Dependent-4.ensures,
+      c.from-in-Dependent-5.ensures,
+      c.from-in-Dependent-6.ensures,
+      c.to_byte.ensures,
+      c.to_byte-in-Dependent.ensures,
+      c.to_byte-in-Dependent-2.ensures,
+      c.to_byte-in-Dependent-3.ensures,
+      c.to_byte-in-Dependent-4.ensures,
+    )

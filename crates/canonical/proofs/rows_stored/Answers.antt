@@ -1,21 +1,18 @@
-use mathlib.Core.Path.{◌≡◌, sym, ◌∙◌}
+use Prim.Native.Nat.{ℕ}
+use mathlib.Core.Path.{◌∙◌}
 use native.Mathlib.Omega.{arith}
 use borrow.Author.Rules.{rules}
-use borrow.Author.Tests.{not-true, not-false}
-use Rattle.base.proofs.Search.{every_none, every_more, every_fails}
+use borrow.Author.Tests.{tests}
+use Rattle.std.proofs.lemmas.Iterator.{YieldsList-from_range}
+use Rattle.std.proofs.lemmas.Iterator.Search.{all_from_yields_List}
+use Rattle.base.proofs.Lists.{range_all_every}
+use Rattle.table.specs.Places.{row_size}
+use Rattle.canonical.specs.Parts.{row_as_encoded}
 use Rattle.canonical.proofs.rows_stored.Goals as goal
 
-pub loop-i-init : goal.loop-i-init
-loop-i-init c = (search rules, every_none _)
-
-pub row_stored-requires : goal.row_stored-requires
-row_stored-requires c = omega (arith, c.requires)
-
-pub returns-then-not-row_stored : goal.returns-then-not-row_stored
-returns-then-not-row_stored c = sym (every_fails _ _ c.loop-i.i (omega arith) (sym c.row_stored.ensures ∙ not-true _ c.if-not-row_stored.true-raw))
-
-pub loop-i-preserved : goal.loop-i-preserved
-loop-i-preserved c = (omega arith, every_more _ _ c.loop-i.invariant.1 (sym c.row_stored.ensures ∙ not-false _ c.if-not-row_stored.false-raw))
-
 pub returns : goal.returns
-returns c = let e : c.loop-i.i ≡ c.args.m = omega arith in sym (rw e at c.loop-i.invariant.1)
+returns c =
+    all_from_yields_List (λ (i : ℕ). row_as_encoded c.args.a.now i row_size) _ _ _ c.all.ensures.ran
+    (YieldsList-from_range 0 c.args.m c.args.m (cc) (omega arith))
+    (λ x b q k. search (rules, tests))
+    ∙ range_all_every (λ (i : ℕ). row_as_encoded c.args.a.now i row_size) c.args.m

@@ -3,4 +3,4 @@ use Rattle.cube.proofs.differ.Goals as goal
 
 pub returns : goal.returns
 returns c = let p = c.requires in
-    differ_by _ _ _ _ _ _ _ _ _ _ _ _ _ p.2 p.3 p.4 c.moved-p.ensures c.moved-q.ensures c.path.ensures c.path-2.ensures c.path-3.ensures c.path-4.ensures
+    differ_by _ _ _ _ _ _ _ _ _ _ _ _ _ p.0 p.1 p.2 c.moved-p.ensures c.moved-q.ensures c.path.ensures c.path-2.ensures c.path-3.ensures c.path-4.ensures

@@ -4,4 +4,4 @@ use Rattle.cube.proofs.step_at.Goals as goal
 
 pub returns : goal.returns
 unfolding cell_at
-returns c = step_by _ _ _ _ _ _ _ _ c.stays-q.ensures c.closed.ensures
+returns c = step_by _ _ _ _ _ _ _ _ c.stays.ensures c.closed.ensures

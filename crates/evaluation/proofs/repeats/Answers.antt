@@ -1,18 +1,22 @@
-use mathlib.Core.Path.{◌≡◌, sym}
+use Prim.Native.Nat.{ℕ, ◌<◌}
 use native.Mathlib.Omega.{arith}
-use borrow.Author.Count.{below_none, below_more}
-use borrow.Author.Tests.{eq-eqb, ne_eqb}
-use Rattle.base.proofs.Search.{some_at, some_none}
+use mathlib.Core.Path.{◌≡◌, ap, ◌∙◌}
+use mathlib.Core.Bool.{Bool}
+use mathlib.Core.List.{List}
+use lib.Dec.{eqb}
+use lib.ListN.{length, get_or, take}
+use Rattle.std.proofs.lemmas.List.{length-take-le, get_or-take}
+use Rattle.base.specs.Search.{some}
+use Rattle.base.proofs.Lists.{list_any_some}
+use Rattle.base.proofs.Search.{some_same}
 use Rattle.evaluation.proofs.repeats.Goals as goal
 
-pub loop-m-init : goal.loop-m-init
-loop-m-init c = (omega arith, below_none _)
-
-pub returns-then-l-m : goal.returns-then-l-m
-returns-then-l-m c = sym (some_at _ _ c.loop-m.m (omega arith) (eq-eqb _ _ c.if-l-m.true))
-
-pub loop-m-preserved : goal.loop-m-preserved
-loop-m-preserved c = (omega arith, below_more _ _ c.loop-m.invariant.1 (ne_eqb _ _ c.if-l-m.false))
+-- among the first k
+some_before : (l : List ℕ) (k : ℕ) (f : ℕ → Bool) → k < length l → some (length (take k l)) (λ m. f (get_or (take k l) m 0)) ≡ some k (λ m. f (get_or l m 0))
+some_before l k f h = rw (length-take-le k l (omega arith)) (some_same _ _ k (λ m g. ap f (get_or-take k l m 0 g)))
 
 pub returns : goal.returns
-returns c = let e : c.loop-m.m ≡ c.args.k = omega arith in sym (some_none _ _ (rw e at c.loop-m.invariant.1))
+returns c =
+    let l = c.args.l.now in
+    let test : ℕ → Bool = λ (b : ℕ). eqb b (get_or l c.args.k 0) in
+    c.contains.ensures.value ∙ list_any_some test (take c.args.k l) 0 ∙ some_before l c.args.k test c.requires

@@ -1,16 +1,12 @@
+use Prim.Native.Nat.{ℕ}
+use lib.ListN.{get_or}
+use borrow.Author.Rules.{rules}
 use Rattle.base.specs.Limits.{input_limit}
-use Rattle.base.proofs.Listed.{filled_none, filled_more, filled_all}
-use Rattle.evaluation.specs.Called.{padded}
+use Rattle.base.proofs.Chains.{listed_from_array}
+use Rattle.value.specs.declared.Ternary.TheVariants.{V0}
+use Rattle.evaluation.specs.Called.{vector_in, padded}
 use Rattle.evaluation.proofs.vector_in.Goals as goal
-
-pub loop-k-init : goal.loop-k-init
-unfolding padded
-loop-k-init c = filled_none _ input_limit _
 
 pub returns : goal.returns
 unfolding padded
-returns c = filled_all _ input_limit _ _ c.loop-k-test.false c.loop-k.invariant
-
-pub loop-k-preserved : goal.loop-k-preserved
-unfolding padded
-loop-k-preserved c = filled_more _ input_limit _ _ _ c.loop-k-test.true c.place_in-y.ensures c.loop-k.invariant
+returns c = listed_from_array (λ (k : ℕ). get_or (vector_in c.args.s.now) k V0) input_limit V0 _ _ (λ x b q h. search rules) c.from_fn.ensures.items

@@ -1,11 +1,11 @@
-use Prim.Native.Nat.{◌*◌, ◌-◌, ◌≤◌}
+use Prim.Native.Nat.{◌+◌, ◌*◌}
 use mathlib.Core.List.{[]}
-use Rattle.exchange.proofs.Each.{Each}
+use Rattle.memo.proofs.Each.{Each}
 use Rattle.exchange.proofs.Stepped.{StepIn}
 use Rattle.exchange.proofs.steps.Given as goal
 
 abbrev pub invariant-loop-k : goal.invariant-loop-k
-invariant-loop-k l = (l.k ≤ 27) × Each [] (StepIn l.outs l.s l.g l.n l.c l.h l.r) 81 l.f (l.k * 3)
+invariant-loop-k l = Each [] (StepIn l.memo l.lanes l.columns.moving l.columns.still l.rows) 81 l.steps (l.k * 3)
 
-abbrev pub decreases-loop-k : goal.decreases-loop-k
-decreases-loop-k l = 27 - l.k
+abbrev pub invariant-loop-o : goal.invariant-loop-o
+invariant-loop-o l = Each [] (StepIn l.memo l.lanes l.columns.moving l.columns.still l.rows) 81 l.steps (l.k * 3 + l.o)

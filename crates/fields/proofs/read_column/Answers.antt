@@ -1,24 +1,28 @@
-use mathlib.Core.Path.{sym, ◌∙◌}
-use Rattle.text.specs.Reader.{◌>>=◌, need, check}
-use Rattle.text.proofs.Blanklaws.{skip_still}
-use Rattle.text.proofs.Readlaws.{ahead_one}
-use Rattle.grammar.specs.Rows.{field, saying}
-use Rattle.fields.specs.Pieces.{column}
-use Rattle.fields.proofs.Piecelaws.{column_yes, column_no}
+use Rattle.std.proofs.Common.{sym, ◌∙◌}
+use Rattle.text.proofs.Readlaws.{passed_on}
+use Rattle.fields.proofs.Piecelaws.{need_is, column_is, column_few}
 use Rattle.fields.proofs.read_column.Goals as goal
 
 pub returns-then-one_at : goal.returns-then-one_at
-unfolding column field saying ◌>>=◌ need check
-returns-then-one_at c = rw (c.skip_from-i.ensures, ahead_one 58, ← c.one_at.ensures, c.if-one_at.true)
+returns-then-one_at c =
+    let a = c.args in
+    column_few a.text.now _ a.at c.skip_from-i.ensures a.edge (sym c.one_at.ensures ∙ c.if-one_at.true) ∙ rw c.at.ensures
 
-pub returns-in_default : goal.returns-in_default
-unfolding column field saying ◌>>=◌ need check
-returns-in_default c = rw (c.skip_from-i.ensures, ahead_one 58, ← c.one_at.ensures, c.if-one_at.false, skip_still c.args.at c.skip_from-i.result _ _ c.skip_from-i.ensures, c.read_token-w.ensures, c.in_default.is)
+pub returns-in_err-written : goal.returns-in_err-written
+returns-in_err-written c =
+    let a = c.args in
+    column_is a.text.now _ a.at c.skip_from-i.ensures _ c.read_written.ensures a.edge (sym c.one_at.ensures ∙ c.if-one_at.false)
+    ∙ rw c.in_err-written.was (passed_on a.text.now _ _ _ _ c.from_residual.ensures.1)
 
-pub returns-then-fits_column : goal.returns-then-fits_column
-unfolding column field saying ◌>>=◌ need check
-returns-then-fits_column c = rw (c.skip_from-i.ensures, ahead_one 58, ← c.one_at.ensures, c.if-one_at.false, skip_still c.args.at c.skip_from-i.result _ _ c.skip_from-i.ensures, c.read_token-w.ensures, c.in-At.is, column_yes c.args.edge _ (sym c.fits_column.ensures ∙ c.if-fits_column.true))
+pub returns-in_err-s : goal.returns-in_err-s
+returns-in_err-s c =
+    let a = c.args in
+    column_is a.text.now _ a.at c.skip_from-i.ensures _ c.read_written.ensures a.edge (sym c.one_at.ensures ∙ c.if-one_at.false)
+    ∙ rw (c.in_ok-written.was, ← c.column_of.ensures, need_is a.text.now, ← c.at-2.ensures, ← c.ok_or.ensures.value, c.in_err-s.was)
+    (passed_on a.text.now _ _ _ _ c.from_residual-in_err-s.ensures.1)
 
 pub returns : goal.returns
-unfolding column field saying ◌>>=◌ need check
-returns c = rw (c.skip_from-i.ensures, ahead_one 58, ← c.one_at.ensures, c.if-one_at.false, skip_still c.args.at c.skip_from-i.result _ _ c.skip_from-i.ensures, c.read_token-w.ensures, c.in-At.is, column_no c.args.edge _ (sym c.fits_column.ensures ∙ c.if-fits_column.false))
+returns c =
+    let a = c.args in
+    column_is a.text.now _ a.at c.skip_from-i.ensures _ c.read_written.ensures a.edge (sym c.one_at.ensures ∙ c.if-one_at.false)
+    ∙ rw (c.in_ok-written.was, ← c.column_of.ensures, need_is a.text.now, ← c.at-2.ensures, ← c.ok_or.ensures.value, c.in_ok-s.was)

@@ -1,17 +1,41 @@
-use Rattle.fields.proofs.Piecelaws.{level_yes, level_no}
-use mathlib.Core.Path.{sym, ◌∙◌}
-use Rattle.text.specs.Reader.{◌>>=◌, need}
+use Rattle.text.specs.Reader.{◌>>=◌}
+use Rattle.text.proofs.Readlaws.{passed_on}
 use Rattle.grammar.specs.Rows.{saying}
+use Rattle.fields.proofs.Piecelaws.{need_is}
 use Rattle.fields.proofs.read_inner.Goals as goal
 
-pub returns-in_default : goal.returns-in_default
-unfolding saying ◌>>=◌ need
-returns-in_default c = rw (c.skip_from-p.ensures, c.token_at-w.ensures, c.in_default.is)
+pub returns-in_err-written : goal.returns-in_err-written
+unfolding saying ◌>>=◌
+returns-in_err-written c =
+    rw (c.skip_from-p.ensures, c.read_byte.ensures, c.in_err-written.was) (passed_on c.args.text.now _ _ _ _ c.from_residual.ensures.1)
 
-pub returns-then-is_level : goal.returns-then-is_level
-unfolding saying ◌>>=◌ need
-returns-then-is_level c = rw (c.skip_from-p.ensures, c.token_at-w.ensures, c.in-At.is, level_yes _ (sym c.is_level.ensures ∙ c.if-is_level.true))
+pub returns-in_err-level : goal.returns-in_err-level
+unfolding saying ◌>>=◌
+returns-in_err-level c =
+    let t = c.args.text.now in
+    rw (
+      c.skip_from-p.ensures,
+      c.read_byte.ensures,
+      c.in_ok-written.was,
+      ← c.state_of.ensures,
+      need_is t,
+      ← c.at.ensures,
+      ← c.ok_or.ensures.value,
+      c.in_err-level.was,
+    )
+    (passed_on t _ _ _ _ c.from_residual-in_err-level.ensures.1)
 
 pub returns : goal.returns
-unfolding saying ◌>>=◌ need
-returns c = rw (c.skip_from-p.ensures, c.token_at-w.ensures, c.in-At.is, level_no _ (sym c.is_level.ensures ∙ c.if-is_level.false))
+unfolding saying ◌>>=◌
+returns c =
+    let t = c.args.text.now in
+    rw (
+      c.skip_from-p.ensures,
+      c.read_byte.ensures,
+      c.in_ok-written.was,
+      ← c.state_of.ensures,
+      need_is t,
+      ← c.at.ensures,
+      ← c.ok_or.ensures.value,
+      c.in_ok-level.was,
+    )

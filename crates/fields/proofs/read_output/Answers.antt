@@ -1,17 +1,24 @@
-use Rattle.fields.proofs.Piecelaws.{output_yes, output_no}
-use mathlib.Core.Path.{sym, ◌∙◌}
-use Rattle.text.specs.Reader.{◌>>=◌, need}
-use Rattle.grammar.specs.Rows.{saying, field}
+use Rattle.std.proofs.Common.{◌∙◌}
+use Rattle.text.proofs.Readlaws.{passed_on}
+use Rattle.grammar.specs.Rows.{output_said}
+use Rattle.fields.proofs.Piecelaws.{field_is, need_is}
 use Rattle.fields.proofs.read_output.Goals as goal
 
-pub returns-in_default : goal.returns-in_default
-unfolding field saying ◌>>=◌ need
-returns-in_default c = rw (c.skip_from-p.ensures, c.read_token-w.ensures, c.in_default.is)
+pub returns-in_err-written : goal.returns-in_err-written
+returns-in_err-written c =
+    let a = c.args in
+    field_is a.text.now _ a.at c.skip_from-p.ensures _ c.read_written.ensures (output_said a.sequential)
+    ∙ rw c.in_err-written.was (passed_on a.text.now _ _ _ _ c.from_residual.ensures.1)
 
-pub returns-then-fits_output : goal.returns-then-fits_output
-unfolding field saying ◌>>=◌ need
-returns-then-fits_output c = rw (c.skip_from-p.ensures, c.read_token-w.ensures, c.in-At.is, output_yes c.args.sequential _ (sym c.fits_output.ensures ∙ c.if-fits_output.true))
+pub returns-in_err-output : goal.returns-in_err-output
+returns-in_err-output c =
+    let a = c.args in
+    field_is a.text.now _ a.at c.skip_from-p.ensures _ c.read_written.ensures (output_said a.sequential)
+    ∙ rw (c.in_ok-written.was, ← c.output_of.ensures, need_is a.text.now, ← c.at.ensures, ← c.ok_or.ensures.value, c.in_err-output.was)
+    (passed_on a.text.now _ _ _ _ c.from_residual-in_err-output.ensures.1)
 
 pub returns : goal.returns
-unfolding field saying ◌>>=◌ need
-returns c = rw (c.skip_from-p.ensures, c.read_token-w.ensures, c.in-At.is, output_no c.args.sequential _ (sym c.fits_output.ensures ∙ c.if-fits_output.false))
+returns c =
+    let a = c.args in
+    field_is a.text.now _ a.at c.skip_from-p.ensures _ c.read_written.ensures (output_said a.sequential)
+    ∙ rw (c.in_ok-written.was, ← c.output_of.ensures, need_is a.text.now, ← c.at.ensures, ← c.ok_or.ensures.value, c.in_ok-output.was)

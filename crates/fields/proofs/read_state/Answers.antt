@@ -1,26 +1,67 @@
-use borrow.Author.Tests.{not-true, not-false}
-use mathlib.Core.Path.{sym, ◌∙◌}
-use Rattle.text.specs.Reader.{◌>>=◌, need}
-use Rattle.grammar.specs.Rows.{state, field, saying}
-use Rattle.fields.proofs.Piecelaws.{level_yes, level_no}
+use Rattle.text.specs.Reader.{◌>>=◌}
+use Rattle.text.proofs.Readlaws.{passed_on}
+use Rattle.grammar.specs.Rows.{state, state_of}
+use Rattle.fields.proofs.Piecelaws.{field_is, need_is}
 use Rattle.fields.proofs.read_state.Goals as goal
 
 pub returns-then-not-sequential : goal.returns-then-not-sequential
-unfolding state field saying ◌>>=◌ need
-returns-then-not-sequential c = rw (not-true c.args.sequential c.if-not-sequential.true-raw)
+unfolding state
+returns-then-not-sequential c = rw c.if-not-sequential.true
 
-pub returns-in_default : goal.returns-in_default
-unfolding state field saying ◌>>=◌ need
-returns-in_default c = rw (not-false c.args.sequential c.if-not-sequential.false-raw, c.skip_from-p.ensures, c.read_token-w.ensures, c.in_default.is)
+pub returns-in_err-written : goal.returns-in_err-written
+unfolding state ◌>>=◌
+returns-in_err-written c =
+    let a = c.args in
+    rw (c.if-not-sequential.false, field_is a.text.now _ a.at c.skip_from-p.ensures _ c.read_written.ensures state_of, c.in_err-written.was)
+    (passed_on a.text.now _ _ _ _ c.from_residual.ensures.1)
 
-pub returns-then-not-is_level : goal.returns-then-not-is_level
-unfolding state field saying ◌>>=◌ need
-returns-then-not-is_level c = rw (not-false c.args.sequential c.if-not-sequential.false-raw, c.skip_from-p.ensures, c.read_token-w.ensures, c.in-At.is, level_no c.in-At.x (sym c.is_level.ensures ∙ not-true c.is_level.result c.if-not-is_level.true-raw))
+pub returns-in_err-level : goal.returns-in_err-level
+unfolding state ◌>>=◌
+returns-in_err-level c =
+    let a = c.args in
+    rw (
+      c.if-not-sequential.false,
+      field_is a.text.now _ a.at c.skip_from-p.ensures _ c.read_written.ensures state_of,
+      c.in_ok-written.was,
+      ← c.state_of.ensures,
+      need_is a.text.now,
+      ← c.at.ensures,
+      ← c.ok_or.ensures.value,
+      c.in_err-level.was,
+    )
+    (passed_on a.text.now _ _ _ _ c.from_residual-in_err-level.ensures.1)
 
-pub returns-in_default-s : goal.returns-in_default-s
-unfolding state field saying ◌>>=◌ need
-returns-in_default-s c = rw (not-false c.args.sequential c.if-not-sequential.false-raw, c.skip_from-p.ensures, c.read_token-w.ensures, c.in-At.is, level_yes c.in-At.x (sym c.is_level.ensures ∙ not-false c.is_level.result c.if-not-is_level.false-raw), c.read_mark-s.ensures, c.in_default-s.is, c.stopped.ensures, c.in_default-s.is)
+pub returns-in_err-end : goal.returns-in_err-end
+unfolding state ◌>>=◌
+returns-in_err-end c =
+    let a = c.args in
+    rw (
+      c.if-not-sequential.false,
+      field_is a.text.now _ a.at c.skip_from-p.ensures _ c.read_written.ensures state_of,
+      c.in_ok-written.was,
+      ← c.state_of.ensures,
+      need_is a.text.now,
+      ← c.at.ensures,
+      ← c.ok_or.ensures.value,
+      c.in_ok-level.was,
+      c.read_mark.ensures,
+      c.in_err-end.was,
+    )
+    (passed_on a.text.now _ _ _ _ c.from_residual-in_err-end.ensures.1)
 
 pub returns : goal.returns
-unfolding state field saying ◌>>=◌ need
-returns c = rw (not-false c.args.sequential c.if-not-sequential.false-raw, c.skip_from-p.ensures, c.read_token-w.ensures, c.in-At.is, level_yes c.in-At.x (sym c.is_level.ensures ∙ not-false c.is_level.result c.if-not-is_level.false-raw), c.read_mark-s.ensures, c.in-At-s.is)
+unfolding state ◌>>=◌
+returns c =
+    let a = c.args in
+    rw (
+      c.if-not-sequential.false,
+      field_is a.text.now _ a.at c.skip_from-p.ensures _ c.read_written.ensures state_of,
+      c.in_ok-written.was,
+      ← c.state_of.ensures,
+      need_is a.text.now,
+      ← c.at.ensures,
+      ← c.ok_or.ensures.value,
+      c.in_ok-level.was,
+      c.read_mark.ensures,
+      c.in_ok-end.was,
+    )

@@ -1,14 +1,14 @@
-use mathlib.Core.Path.{refl, sym, ◌∙◌}
+use mathlib.Core.Path.{sym, ap, ◌∙◌}
+use native.Mathlib.Omega.{arith}
+use Prim.Native.Nat.{◌/◌}
+use Rattle.handed.specs.Handed.{thirds}
 use Rattle.handed.proofs.Thirds.{thirds_step, thirds_end}
 use Rattle.handed.proofs.divide.Goals as goal
 
--- `entry::divide` meets its contract: the answer is the answer from here. Assumes nothing.
+-- `handed::divide` meets its contract: what is left to divide by answers what all would. Assumes nothing.
 
-pub loop-left-init : goal.loop-left-init
-loop-left-init c = refl
-
-pub loop-left-preserved : goal.loop-left-preserved
-loop-left-preserved c = c.loop-left.invariant ∙ thirds_step _ _ c.loop-left-test.true
+pub loop-k-preserved : goal.loop-k-preserved
+loop-k-preserved c = c.loop-k.invariant ∙ thirds_step _ _ (omega (arith, c.loop-k-test.true)) ∙ ap (thirds (c.loop-k.x / 3)) (omega arith)
 
 pub returns : goal.returns
-returns c = sym (c.loop-left.invariant ∙ thirds_end _ _ c.loop-left-test.false)
+returns c = sym (c.loop-k.invariant ∙ thirds_end _ _ (omega (arith, c.loop-k-test.false)))

@@ -1,64 +1,85 @@
-use Rattle.ports.specs.Ports.{port_at, ports_of, down}
-use Rattle.text.specs.Reader.{check}
-use Rattle.header.proofs.Steps.{turn_fault, turn_output, turn_reg, turn_input, turn_initial, turn_table, turn_none, word_table}
-use Rattle.base.specs.Limits.{input_limit}
-use Rattle.ports.proofs.Keeping.{output_test, output_raise, all_up_lem}
-use Rattle.ports.proofs.Flags.{down_fresh}
-use lib.ListN.{drop, length-set}
-use Prim.Native.Nat.{◌+◌, ◌-◌, suc}
-use native.Mathlib.Omega.{arith}
-use mathlib.Core.Path.{◌≡◌, refl, sym, ◌∙◌}
-use borrow.Author.Rules.{rules}
+use Rattle.std.proofs.Common.{◌≡◌, ◌-◌, sym, ◌∙◌, arith, rules}
+use Rattle.std.proofs.lemmas.Result.{err_from_is_err_and}
+use Rattle.text.proofs.Readlaws.{fault_is}
+use Rattle.grammar.specs.Header.{declaration_room}
+use Rattle.header.proofs.Steps.{going_none, no_room, no_word, all_up_lem, output_cut, output_next, reg_cut, reg_next, input_cut, input_next, initial_cut, initial_last, table_cut, table_last}
+use Rattle.header.proofs.read_declarations.Goals.{in-Output+in_ok-i-in-Output, in-Reg+in_ok-i-in-Reg, in-Input+in_ok-up-in-Input}
 use Rattle.header.proofs.read_declarations.Goals as goal
 
-pub loop-room-init : goal.loop-room-init
-unfolding check
-loop-room-init c = (rw (down_fresh (ports_of c.args.text.now c.args.starts c.args.ends (c.args.n + 1)) (input_limit + 1)), refl)
+pub loop-init : goal.loop-init
+loop-init c = going_none _ _ _
 
-pub returns-in_default : goal.returns-in_default
-unfolding check
-returns-in_default c = let l = c.loop-room in let t = c.args.text.now in let n = c.args.n in let q = port_at c.args.text.now c.args.starts c.args.ends 0 in let ps = ports_of c.args.text.now c.args.starts c.args.ends (n + 1) in let r : l.room ≡ suc (l.room - 1) = omega arith in let v = rw r at l.invariant.0 in rw (v, turn_fault (l.room - 1) q (down ps l.flags) l.reg l.i (drop l.i t) _ _ c.skip_from-p.ensures _ _ (rw c.in_default.is at c.read_declaring-d.ensures), c.stopped.ensures, c.in_default.is)
+pub returns-in_err-word : goal.returns-in_err-word
+returns-in_err-word c =
+    let p = err_from_is_err_and c.from_residual.result c.from_residual.ensures.1 in
+    rw (p.1, p.2) (no_word _ _ _ _ _ _ c.loop.counter c.loop-test.true c.loop.invariant _ c.skip_from-p.ensures _ _ c.in_err-word.ensures)
 
-pub returns-in_default-s : goal.returns-in_default-s
-unfolding check
-returns-in_default-s c = let l = c.loop-room in let t = c.args.text.now in let n = c.args.n in let q = port_at c.args.text.now c.args.starts c.args.ends 0 in let ps = ports_of c.args.text.now c.args.starts c.args.ends (n + 1) in let r : l.room ≡ suc (l.room - 1) = omega arith in let v = rw r at l.invariant.0 in rw (v, turn_output (l.room - 1) q (down ps l.flags) l.reg l.i (drop l.i t) _ _ c.skip_from-p.ensures _ _ (rw (c.in-At.is, c.if-k-eq0.true) at c.read_declaring-d.ensures), output_test c.args.text.now c.args.starts c.args.ends l.flags n c.requires.1 (omega arith), (rw c.part.ensures at c.declare-s.ensures), c.in_default-s.is, c.stopped-in_default-s.ensures, c.in_default-s.is)
+pub returns-in_err-i-in-Output : goal.returns-in_err-i-in-Output
+returns-in_err-i-in-Output c =
+    let p = err_from_is_err_and c.from_residual-in_err-i-in-Output.result c.from_residual-in_err-i-in-Output.ensures.1 in
+    rw (p.1, p.2)
+    (output_cut _ _ _ _ _ _ c.loop.counter c.loop-test.true c.loop.invariant _ c.skip_from-p.ensures _ (rw c.in-Output.is at c.in_ok-word.ensures) _ _
+    (rw c.output-output.ensures at c.in_err-i-in-Output.ensures.said))
 
-pub loop-room-preserved-then-k-eq0 : goal.loop-room-preserved-then-k-eq0
-unfolding check
-loop-room-preserved-then-k-eq0 c = let l = c.loop-room in let t = c.args.text.now in let n = c.args.n in let q = port_at c.args.text.now c.args.starts c.args.ends 0 in let ps = ports_of c.args.text.now c.args.starts c.args.ends (n + 1) in let r : l.room ≡ suc (l.room - 1) = omega arith in let v = rw r at l.invariant.0 in (rw (v, turn_output (l.room - 1) q (down ps l.flags) l.reg l.i (drop l.i t) _ _ c.skip_from-p.ensures _ _ (rw (c.in-At.is, c.if-k-eq0.true) at c.read_declaring-d.ensures), output_test c.args.text.now c.args.starts c.args.ends l.flags n c.requires.1 (omega arith), (rw c.part.ensures at c.declare-s.ensures), c.in-At-s.is, output_raise c.args.text.now c.args.starts c.args.ends l.flags n c.requires.1 (omega arith)), simp length-set l.invariant.1)
+pub returns-in_err-i-in-Reg : goal.returns-in_err-i-in-Reg
+returns-in_err-i-in-Reg c =
+    let p = err_from_is_err_and c.from_residual-in_err-i-in-Reg.result c.from_residual-in_err-i-in-Reg.ensures.1 in
+    rw (p.1, p.2)
+    (reg_cut _ _ _ _ _ _ c.loop.counter c.loop-test.true c.loop.invariant _ c.skip_from-p.ensures _ (rw c.in-Reg.is at c.in_ok-word.ensures) _ _
+    (rw c.output-output.ensures at c.in_err-i-in-Reg.ensures.said))
 
-pub returns-in_default-s-2 : goal.returns-in_default-s-2
-unfolding check
-returns-in_default-s-2 c = let l = c.loop-room in let t = c.args.text.now in let n = c.args.n in let q = port_at c.args.text.now c.args.starts c.args.ends 0 in let ps = ports_of c.args.text.now c.args.starts c.args.ends (n + 1) in let r : l.room ≡ suc (l.room - 1) = omega arith in let v = rw r at l.invariant.0 in rw (v, turn_reg (l.room - 1) q (down ps l.flags) l.reg l.i (drop l.i t) _ _ c.skip_from-p.ensures _ _ (rw (c.in-At.is, c.if-k-eq1.true) at c.read_declaring-d.ensures), (rw c.part-then-k-eq1.ensures at c.declare-s-then-k-eq1.ensures), c.in_default-s-2.is, c.stopped-in_default-s-2.ensures, c.in_default-s-2.is)
+pub returns-in_err-up-in-Input : goal.returns-in_err-up-in-Input
+returns-in_err-up-in-Input c =
+    let p = err_from_is_err_and c.from_residual-in_err-up-in-Input.result c.from_residual-in_err-up-in-Input.ensures.1 in
+    rw (p.1, p.2)
+    (input_cut _ _ _ _ _ _ c.loop.counter c.loop-test.true c.loop.invariant _ c.skip_from-p.ensures _ (rw c.in-Input.is at c.in_ok-word.ensures) _ _
+    c.in_err-up-in-Input.ensures)
 
-pub loop-room-preserved-then-k-eq1 : goal.loop-room-preserved-then-k-eq1
-unfolding check
-loop-room-preserved-then-k-eq1 c = let l = c.loop-room in let t = c.args.text.now in let n = c.args.n in let q = port_at c.args.text.now c.args.starts c.args.ends 0 in let ps = ports_of c.args.text.now c.args.starts c.args.ends (n + 1) in let r : l.room ≡ suc (l.room - 1) = omega arith in let v = rw r at l.invariant.0 in (rw (v, turn_reg (l.room - 1) q (down ps l.flags) l.reg l.i (drop l.i t) _ _ c.skip_from-p.ensures _ _ (rw (c.in-At.is, c.if-k-eq1.true) at c.read_declaring-d.ensures), (rw c.part-then-k-eq1.ensures at c.declare-s-then-k-eq1.ensures), c.in-At-s-2.is), l.invariant.1)
+pub returns-in_err-start-in-Initial : goal.returns-in_err-start-in-Initial
+returns-in_err-start-in-Initial c =
+    let p = err_from_is_err_and c.from_residual-in_err-start-in-Initial.result c.from_residual-in_err-start-in-Initial.ensures.1 in
+    let u = all_up_lem _ _ _ _ _ _ c.loop.counter c.loop-test.true c.loop.invariant ∙ sym c.all_declared-none.ensures in
+    rw (p.1, p.2)
+    (initial_cut _ _ _ _ _ _ c.loop.counter c.loop-test.true c.loop.invariant _ c.skip_from-p.ensures _ (rw c.in-Initial.is at c.in_ok-word.ensures) _ _
+    (rw c.output-output.ensures at (c.in_err-start-in-Initial.ensures _ u)))
 
-pub returns-in_default-s-3 : goal.returns-in_default-s-3
-unfolding check
-returns-in_default-s-3 c = let l = c.loop-room in let t = c.args.text.now in let n = c.args.n in let q = port_at c.args.text.now c.args.starts c.args.ends 0 in let ps = ports_of c.args.text.now c.args.starts c.args.ends (n + 1) in let r : l.room ≡ suc (l.room - 1) = omega arith in let v = rw r at l.invariant.0 in rw (v, turn_input (l.room - 1) q (down ps l.flags) l.reg l.i (drop l.i t) _ _ c.skip_from-p.ensures _ _ (rw (c.in-At.is, c.if-k-eq2.true) at c.read_declaring-d.ensures), c.read_list-l.ensures, c.in_default-s-3.is, c.stopped-in_default-s-3.ensures, c.in_default-s-3.is)
-
-pub loop-room-preserved : goal.loop-room-preserved
-unfolding check
-loop-room-preserved c = let l = c.loop-room in let t = c.args.text.now in let n = c.args.n in let q = port_at c.args.text.now c.args.starts c.args.ends 0 in let ps = ports_of c.args.text.now c.args.starts c.args.ends (n + 1) in let r : l.room ≡ suc (l.room - 1) = omega arith in let v = rw r at l.invariant.0 in (rw (v, turn_input (l.room - 1) q (down ps l.flags) l.reg l.i (drop l.i t) _ _ c.skip_from-p.ensures _ _ (rw (c.in-At.is, c.if-k-eq2.true) at c.read_declaring-d.ensures), c.read_list-l.ensures, c.in-At-s-3.is), search rules)
-
-pub returns-in_default-s-4 : goal.returns-in_default-s-4
-unfolding check
-returns-in_default-s-4 c = let l = c.loop-room in let t = c.args.text.now in let n = c.args.n in let q = port_at c.args.text.now c.args.starts c.args.ends 0 in let ps = ports_of c.args.text.now c.args.starts c.args.ends (n + 1) in let r : l.room ≡ suc (l.room - 1) = omega arith in let v = rw r at l.invariant.0 in rw (v, turn_initial (l.room - 1) q (down ps l.flags) l.reg l.i (drop l.i t) _ _ c.skip_from-p.ensures _ _ (rw (c.in-At.is, c.if-k-eq3.true) at c.read_declaring-d.ensures), (rw c.part-then-k-eq3.ensures at c.read_initial-s.ensures) (down ps l.flags) (all_up_lem c.args.text.now c.args.starts c.args.ends l.flags n c.requires.1 (omega arith) ∙ sym c.all_declared-none.ensures), c.in_default-s-4.is, c.stopped-in_default-s-4.ensures, c.in_default-s-4.is)
-
-pub returns-then-k-eq3 : goal.returns-then-k-eq3
-unfolding check
-returns-then-k-eq3 c = let l = c.loop-room in let t = c.args.text.now in let n = c.args.n in let q = port_at c.args.text.now c.args.starts c.args.ends 0 in let ps = ports_of c.args.text.now c.args.starts c.args.ends (n + 1) in let r : l.room ≡ suc (l.room - 1) = omega arith in let v = rw r at l.invariant.0 in rw (v, turn_initial (l.room - 1) q (down ps l.flags) l.reg l.i (drop l.i t) _ _ c.skip_from-p.ensures _ _ (rw (c.in-At.is, c.if-k-eq3.true) at c.read_declaring-d.ensures), (rw c.part-then-k-eq3.ensures at c.read_initial-s.ensures) (down ps l.flags) (all_up_lem c.args.text.now c.args.starts c.args.ends l.flags n c.requires.1 (omega arith) ∙ sym c.all_declared-none.ensures), c.in-At-s-4.is, c.from_rank.ensures)
+pub returns-in-Initial : goal.returns-in-Initial
+returns-in-Initial c =
+    let u = all_up_lem _ _ _ _ _ _ c.loop.counter c.loop-test.true c.loop.invariant ∙ sym c.all_declared-none.ensures in
+    initial_last _ _ _ _ _ _ c.loop.counter c.loop-test.true c.loop.invariant _ c.skip_from-p.ensures _ (rw c.in-Initial.is at c.in_ok-word.ensures) _ _ _
+    (rw c.output-output.ensures at (c.in_ok-start-in-Initial.ensures _ u))
 
 pub returns-then-undeclared : goal.returns-then-undeclared
-unfolding check
-returns-then-undeclared c = let l = c.loop-room in let t = c.args.text.now in let n = c.args.n in let q = port_at c.args.text.now c.args.starts c.args.ends 0 in let ps = ports_of c.args.text.now c.args.starts c.args.ends (n + 1) in let r : l.room ≡ suc (l.room - 1) = omega arith in let v = rw r at l.invariant.0 in rw (v, turn_table (l.room - 1) q (down ps l.flags) l.reg l.i (drop l.i t) _ _ c.skip_from-p.ensures _ _ (rw (c.in-At.is, word_table _ c.if-k-eq0.false c.if-k-eq1.false c.if-k-eq2.false c.if-k-eq3.false) at c.read_declaring-d.ensures), all_up_lem c.args.text.now c.args.starts c.args.ends l.flags n c.requires.1 (omega arith), ← c.all_declared-none.ensures, c.if-undeclared.true)
+returns-then-undeclared c =
+    rw c.at.ensures
+    (table_cut _ _ _ _ _ _ c.loop.counter c.loop-test.true c.loop.invariant _ c.skip_from-p.ensures _ (rw c.in-Table.is at c.in_ok-word.ensures)
+    (sym c.all_declared-complete.ensures ∙ c.if-undeclared.true))
 
-pub returns-in-loop-room : goal.returns-in-loop-room
-unfolding check
-returns-in-loop-room c = let l = c.loop-room in let t = c.args.text.now in let n = c.args.n in let q = port_at c.args.text.now c.args.starts c.args.ends 0 in let ps = ports_of c.args.text.now c.args.starts c.args.ends (n + 1) in let r : l.room ≡ suc (l.room - 1) = omega arith in let v = rw r at l.invariant.0 in rw (v, turn_table (l.room - 1) q (down ps l.flags) l.reg l.i (drop l.i t) _ _ c.skip_from-p.ensures _ _ (rw (c.in-At.is, word_table _ c.if-k-eq0.false c.if-k-eq1.false c.if-k-eq2.false c.if-k-eq3.false) at c.read_declaring-d.ensures), all_up_lem c.args.text.now c.args.starts c.args.ends l.flags n c.requires.1 (omega arith), ← c.all_declared-none.ensures, c.if-undeclared.false)
+pub returns-in-Table : goal.returns-in-Table
+returns-in-Table c =
+    table_last _ _ _ _ _ _ c.loop.counter c.loop-test.true c.loop.invariant _ c.skip_from-p.ensures _ (rw c.in-Table.is at c.in_ok-word.ensures)
+    (sym c.all_declared-complete.ensures ∙ c.if-undeclared.false)
+
+pub loop-preserved : goal.loop-preserved
+loop-preserved c =
+    let q = c.output-output.ensures in
+    elim c.match-word.branch [
+      | in-Output+in_ok-i-in-Output w ↦
+          rw (w.declared-is, w.reg-is, w.i-is, w.declare.ensures.raised, w.in_ok-i-in-Output.was)
+          (output_next _ _ _ _ _ _ c.loop.counter c.loop-test.true c.loop.invariant _ c.skip_from-p.ensures _ (rw w.in-Output.is at c.in_ok-word.ensures) _ _
+          (rw q at w.in_ok-i-in-Output.ensures.said))
+      | in-Reg+in_ok-i-in-Reg w ↦
+          rw (w.declared-is, w.reg-is, w.i-is, w.declare-in-Reg.ensures.raised, w.in_ok-i-in-Reg.was)
+          (reg_next _ _ _ _ _ _ c.loop.counter c.loop-test.true c.loop.invariant _ c.skip_from-p.ensures _ (rw w.in-Reg.is at c.in_ok-word.ensures) _ _
+          (rw q at w.in_ok-i-in-Reg.ensures.said))
+      | in-Input+in_ok-up-in-Input w ↦
+          rw (w.declared-is, w.reg-is, w.i-is)
+          (input_next _ _ _ _ _ _ c.loop.counter c.loop-test.true c.loop.invariant _ c.skip_from-p.ensures _
+          (rw w.in-Input.is at c.in_ok-word.ensures) _ (search rules) _
+          w.in_ok-up-in-Input.ensures)
+    ]
 
 pub returns : goal.returns
-unfolding check
-returns c = let l = c.loop-room in let r : l.room ≡ 0 = omega arith in rw (rw r at l.invariant.0, turn_none _ _ _ _ _, c.stopped-2.ensures, c.fault_at.ensures)
+returns c =
+    let r : declaration_room - c.loop.counter ≡ 0 = omega arith in
+    rw (c.fault_at.ensures, fault_is) (no_room _ _ _ _ _ _ (rw r at c.loop.invariant))

@@ -1,35 +1,69 @@
-use lib.ListN.{drop}
-use Rattle.header.specs.Heads.{head}
-use Rattle.grammar.specs.Header.{port_list, declared}
+use Rattle.std.proofs.Common.{◌∙◌, []}
+use Rattle.std.proofs.lemmas.Result.{err_from_is_err_and}
+use Rattle.base.specs.Limits.{input_limit}
 use Rattle.text.specs.Reader.{◌>>=◌}
-use Rattle.header.proofs.Steps.{sized}
-use mathlib.Core.Path.{◌∙◌}
+use Rattle.grammar.specs.Header.{port_list, declared}
+use Rattle.header.specs.Heads.{head}
+use Rattle.header.proofs.Steps.{ports_refused, ports_got, sized}
 use Rattle.header.proofs.read_head.Goals as goal
 
-pub returns-in_default : goal.returns-in_default
+pub returns-in_err-i : goal.returns-in_err-i
 unfolding head port_list declared ◌>>=◌
-returns-in_default c = rw (c.read_mark-s.ensures, c.in_default.is, c.stopped.ensures, c.in_default.is)
+returns-in_err-i c =
+    let p = err_from_is_err_and c.from_residual.result c.from_residual.ensures.1 in
+    rw (p.1, p.2, c.read_mark.ensures, c.in_err-i.was)
 
-pub returns-in_default-q : goal.returns-in_default-q
+pub returns-in_err-output : goal.returns-in_err-output
 unfolding head port_list declared ◌>>=◌
-returns-in_default-q c = rw (c.read_mark-s.ensures, c.in-At.is, c.read_name-q.ensures, c.in_default-q.is, c.stopped-in_default-q.ensures, c.in_default-q.is)
+returns-in_err-output c =
+    let p = err_from_is_err_and c.from_residual-in_err-output.result c.from_residual-in_err-output.ensures.1 in
+    rw (p.1, p.2, c.read_mark.ensures, c.in_ok-i.was, c.read_name.ensures, c.in_err-output.was)
 
-pub returns-in_default-c : goal.returns-in_default-c
+pub returns-in_err-j : goal.returns-in_err-j
 unfolding head port_list declared ◌>>=◌
-returns-in_default-c c = rw (c.read_mark-s.ensures, c.in-At.is, c.read_name-q.ensures, c.in-At-q.is, c.read_mark-c.ensures, c.in_default-c.is, c.stopped-in_default-c.ensures, c.in_default-c.is)
+returns-in_err-j c =
+    let p = err_from_is_err_and c.from_residual-in_err-j.result c.from_residual-in_err-j.ensures.1 in
+    rw (p.1, p.2, c.read_mark.ensures, c.in_ok-i.was, c.read_name.ensures, c.in_ok-output.was, c.read_mark-2.ensures, c.in_err-j.was)
 
-pub returns-in_default-t : goal.returns-in_default-t
+pub returns-in_err-ports : goal.returns-in_err-ports
 unfolding head port_list declared ◌>>=◌
-returns-in_default-t c = rw (c.read_mark-s.ensures, c.in-At.is, c.read_name-q.ensures, c.in-At-q.is, c.read_mark-c.ensures, c.in-At-c.is, c.read_inputs-l.ensures.said, c.in_default-t.is, c.stopped-in_default-t.ensures, c.in_default-t.is)
+returns-in_err-ports c =
+    let p = err_from_is_err_and c.from_residual-in_err-ports.result c.from_residual-in_err-ports.ensures.1 in
+    let x = ports_refused input_limit _ [] _ _ _ _ (rw c.of.ensures at c.in_err-ports.ensures) in
+    rw (p.1, p.2, c.read_mark.ensures, c.in_ok-i.was, c.read_name.ensures, c.in_ok-output.was, c.read_mark-2.ensures, c.in_ok-j.was, x)
 
-pub returns-in_default-z : goal.returns-in_default-z
+pub returns-in_err-m : goal.returns-in_err-m
 unfolding head port_list declared ◌>>=◌
-returns-in_default-z c = rw (c.read_mark-s.ensures, c.in-At.is, c.read_name-q.ensures, c.in-At-q.is, c.read_mark-c.ensures, c.in-At-c.is, c.read_inputs-l.ensures.said, c.in-At-t.is, c.read_mark-z.ensures, c.in_default-z.is, c.stopped-in_default-z.ensures, c.in_default-z.is)
-
-pub read_declarations-requires : goal.read_declarations-requires
-unfolding head port_list declared ◌>>=◌
-read_declarations-requires c = ((rw c.in-At-t.is at c.read_inputs-l.ensures.kept).few, (rw c.in-At-t.is at c.read_inputs-l.ensures.kept).distinct)
+returns-in_err-m c =
+    let p = err_from_is_err_and c.from_residual-in_err-m.result c.from_residual-in_err-m.ensures.1 in
+    let x = ports_got input_limit _ [] _ _ _ _ _ (rw c.of.ensures at c.in_ok-ports.ensures) in
+    rw (
+      p.1,
+      p.2,
+      c.read_mark.ensures,
+      c.in_ok-i.was,
+      c.read_name.ensures,
+      c.in_ok-output.was,
+      c.read_mark-2.ensures,
+      c.in_ok-j.was,
+      x.0,
+      c.read_mark-3.ensures,
+      c.in_err-m.was,
+    )
 
 pub returns : goal.returns
 unfolding head port_list declared ◌>>=◌
-returns c = rw (c.read_mark-s.ensures, c.in-At.is, c.read_name-q.ensures, c.in-At-q.is, c.read_mark-c.ensures, c.in-At-c.is, c.read_inputs-l.ensures.said, c.in-At-t.is, c.read_mark-z.ensures, c.in-At-z.is) (sized c.args.text.now c.read_inputs-l.result.starts c.read_inputs-l.result.ends c.in-At-t.n c.in-At-q.a c.in-At-q.e c.in-At-z.m (drop c.in-At-z.m c.args.text.now) (rw c.in-At-t.is at c.read_inputs-l.ensures.kept).output ∙ c.read_declarations.ensures)
+returns c =
+    let x = ports_got input_limit _ [] _ _ _ _ _ (rw c.of.ensures at c.in_ok-ports.ensures) in
+    rw (
+      c.read_mark.ensures,
+      c.in_ok-i.was,
+      c.read_name.ensures,
+      c.in_ok-output.was,
+      c.read_mark-2.ensures,
+      c.in_ok-j.was,
+      x.0,
+      c.read_mark-3.ensures,
+      c.in_ok-m.was,
+    )
+    (sized c.in_ok-ports.ports _ _ _ x.1 ∙ c.read_declarations.ensures)

@@ -1,25 +1,23 @@
+use mathlib.Core.Path.{sym, ◌∙◌}
 use native.Mathlib.Omega.{arith}
-use borrow.Author.Count.{below_none, below_more}
-use Rattle.judge.proofs.Findings.{vectors_low, counted, differs_not, found_at, none_found}
+use Rattle.judge.proofs.Findings.{differs_not, found_pair, low_pairs, next_pair, high_pairs, none_found}
 use Rattle.judge.proofs.finding.Goals as goal
 
-pub overflow_mul-c : goal.overflow_mul-c
-overflow_mul-c c = omega (arith, vectors_low _ _ c.requires.0 c.power-c.ensures)
+pub loop-i-init : goal.loop-i-init
+loop-i-init c = λ t M k h. absurd (omega arith)
 
-pub loop-p-init : goal.loop-p-init
-loop-p-init c = (omega arith, λ t G. below_none _)
+pub loop-j-init : goal.loop-j-init
+loop-j-init c = λ t M k h. low_pairs t _ (c.loop-i.invariant t M) k h (omega arith)
 
-pub pair_first-r-requires : goal.pair_first-r-requires
-pair_first-r-requires c = (omega arith, omega arith, rw c.power-c.ensures, omega arith, c.requires.2)
+pub returns-in-Some : goal.returns-in-Some
+returns-in-Some c = λ t M. found_pair t _ _ _ _ (omega arith) (omega arith) (c.loop-j.invariant t M) (sym c.in-Some.is ∙ c.pair_first.ensures t M)
+    (c.witness_at.ensures t M)
 
-pub witness_at-requires : goal.witness_at-requires
-witness_at-requires c = let q = c.pair_first-r.ensures.1 c.if-found.true in (omega arith, omega arith, omega (arith, q.0, q.1), q.1)
+pub loop-j-preserved : goal.loop-j-preserved
+loop-j-preserved c = λ t M. next_pair t _ _ (omega arith) (c.loop-j.invariant t M) (differs_not t _ _ (sym c.in_default.is ∙ c.pair_first.ensures t M))
 
-pub returns-then-found : goal.returns-then-found
-returns-then-found c = λ t G. found_at t _ _ _ (omega arith) (c.loop-p.invariant.1 t G) (c.pair_first-r.ensures.0 t G) (counted t _ _ _ c.power-c.ensures G.inputs_are c.if-found.true) (c.witness_at.ensures t G)
-
-pub loop-p-preserved : goal.loop-p-preserved
-loop-p-preserved c = (omega arith, λ t G. below_more _ _ (c.loop-p.invariant.1 t G) (differs_not t _ _ _ _ _ c.power-c.ensures G.inputs_are (c.pair_first-r.ensures.0 t G) c.if-found.false))
+pub loop-i-preserved : goal.loop-i-preserved
+loop-i-preserved c = λ t M. high_pairs t _ _ (omega (arith, M.inputs_are)) (c.loop-j.invariant t M)
 
 pub returns : goal.returns
-returns c = λ t G. none_found t _ (omega (arith, G.inputs_are)) (c.loop-p.invariant.1 t G)
+returns c = λ t M. none_found t _ (omega (arith, M.inputs_are)) (c.loop-i.invariant t M)

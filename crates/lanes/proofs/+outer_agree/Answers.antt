@@ -1,69 +1,48 @@
 use native.Mathlib.Omega.{arith}
-use borrow.Author.Tests.{not-true, not-false}
 use Rattle.memo.specs.Rows.{cell_at}
-use Rattle.lanes.proofs.Outer.{outer_plain, outer_none, outer_no, outer_three, outer_last, outer_same}
+use Rattle.lanes.proofs.Outer.{outer_plain, outer_none, outer_no, outer_last, outer_same, outer_seen}
 use Rattle.lanes.proofs.+outer_agree.Goals as goal
+use Rattle.lanes.proofs.+outer_agree.Goals.{else-b-a-via-then-b-a+else-not-outer_agree-2, else-b-a-via-else-b-a}
 
-pub returns-then-only_plain : goal.returns-then-only_plain
+pub returns-then-has_all : goal.returns-then-has_all
 unfolding cell_at
-returns-then-only_plain t c = outer_plain _ _ _ _ _ _ _ _ _ _ c.requires.5 (c.only_plain.ensures c.if-only_plain.true)
+returns-then-has_all t c = outer_plain _ _ _ _ _ _ _ c.requires.3 (c.has_all.ensures c.if-has_all.true)
 
-pub lanes_agree-requires : goal.lanes_agree-requires
+pub returns-in_default : goal.returns-in_default
 unfolding cell_at
-lanes_agree-requires t c = let p = c.requires in (p.0, p.1, p.2, p.4)
-
-pub returns-then-t-eq0 : goal.returns-then-t-eq0
-unfolding cell_at
-returns-then-t-eq0 t c = outer_none _ _ _ _ _ _ _ _ _ _ c.top_of-t.ensures.0 c.if-t-eq0.true c.lanes_agree.ensures
-
-pub outer_agree-requires : goal.outer_agree-requires
-unfolding cell_at
-outer_agree-requires t c = let p = c.requires in (omega arith, (p.0, p.1, p.2, omega (arith, p.3), p.4, p.5))
+returns-in_default t c = outer_none _ _ _ _ _ _ _ (rw c.in_default.is at c.last_other.ensures.0) c.lanes_agree.ensures
 
 pub returns-then-not-outer_agree : goal.returns-then-not-outer_agree
 unfolding cell_at
-returns-then-not-outer_agree t c = outer_no _ _ _ _ _ _ _ _ _ c.top_of-t.ensures.0 c.if-t-eq0.false 0 _ (omega arith) (not-true _ c.if-not-outer_agree.true-raw) c.outer_agree.ensures
-
-pub returns-then-c-a : goal.returns-then-c-a
-unfolding cell_at
-returns-then-c-a t c = let a = c.outer_agree.ensures.sound (not-false _ c.if-not-outer_agree.false-raw) in
-    outer_three _ _ _ _ _ _ _ _ _ c.top_of-t.ensures.0 c.if-t-eq0.false a (outer_same _ _ _ _ _ _ _ _ _ c.if-b-a.true a) (outer_same _ _ _ _ _ _ _ _ _ c.if-c-a.true a)
-
-pub outer_agree-requires-then-b-a : goal.outer_agree-requires-then-b-a
-unfolding cell_at
-outer_agree-requires-then-b-a t c = let p = c.requires in (omega arith, (p.0, p.1, p.2, omega (arith, p.3), p.4, p.5))
-
-pub returns-then-b-a : goal.returns-then-b-a
-unfolding cell_at
-returns-then-b-a t c = let a = c.outer_agree.ensures.sound (not-false _ c.if-not-outer_agree.false-raw) in
-    outer_last _ _ _ _ _ _ _ _ _ c.top_of-t.ensures.0 c.if-t-eq0.false _ a (outer_same _ _ _ _ _ _ _ _ _ c.if-b-a.true a) c.outer_agree-then-b-a.ensures
-
-pub outer_agree-requires-2 : goal.outer_agree-requires-2
-unfolding cell_at
-outer_agree-requires-2 t c = let p = c.requires in (omega arith, (p.0, p.1, p.2, omega (arith, p.3), p.4, p.5))
+returns-then-not-outer_agree t c =
+    let top = rw c.in-Some.is at c.last_other.ensures.0 in
+    outer_no _ _ _ _ _ _ _ top 0 _ (omega arith) c.if-not-outer_agree.true c.outer_agree.ensures
 
 pub returns-then-not-outer_agree-2 : goal.returns-then-not-outer_agree-2
 unfolding cell_at
-returns-then-not-outer_agree-2 t c = outer_no _ _ _ _ _ _ _ _ _ c.top_of-t.ensures.0 c.if-t-eq0.false 1 _ (omega arith) (not-true _ c.if-not-outer_agree-2.true-raw) c.outer_agree-2.ensures
+returns-then-not-outer_agree-2 t c =
+    let top = rw c.in-Some.is at c.last_other.ensures.0 in
+    outer_no _ _ _ _ _ _ _ top 1 _ (omega arith) c.if-not-outer_agree-2.true c.outer_agree-then-b-a.ensures
 
-pub returns-then-c-a-2 : goal.returns-then-c-a-2
+pub returns-then-seen : goal.returns-then-seen
 unfolding cell_at
-returns-then-c-a-2 t c = let a = c.outer_agree.ensures.sound (not-false _ c.if-not-outer_agree.false-raw) in
-    let b = c.outer_agree-2.ensures.sound (not-false _ c.if-not-outer_agree-2.false-raw) in
-    outer_three _ _ _ _ _ _ _ _ _ c.top_of-t.ensures.0 c.if-t-eq0.false a b (outer_same _ _ _ _ _ _ _ _ _ c.if-c-a-2.true a)
+returns-then-seen t c =
+    let top = rw c.in-Some.is at c.last_other.ensures.0 in
+    let first = c.outer_agree.ensures.sound c.if-not-outer_agree.false in
+    outer_seen _ _ _ _ _ _ _ top c.if-seen.true first
+    (elim c.else-b-a.branch [
+      | else-b-a-via-then-b-a+else-not-outer_agree-2 w ↦ w.outer_agree-then-b-a.ensures.sound w.if-not-outer_agree-2.false
+      | else-b-a-via-else-b-a w ↦ outer_same _ _ _ _ _ _ _ w.if-b-a.false first
+    ])
 
-pub returns-then-c-b : goal.returns-then-c-b
+pub returns-else-seen : goal.returns-else-seen
 unfolding cell_at
-returns-then-c-b t c = let a = c.outer_agree.ensures.sound (not-false _ c.if-not-outer_agree.false-raw) in
-    let b = c.outer_agree-2.ensures.sound (not-false _ c.if-not-outer_agree-2.false-raw) in
-    outer_three _ _ _ _ _ _ _ _ _ c.top_of-t.ensures.0 c.if-t-eq0.false a b (outer_same _ _ _ _ _ _ _ _ _ c.if-c-b.true b)
-
-pub outer_agree-requires-3 : goal.outer_agree-requires-3
-unfolding cell_at
-outer_agree-requires-3 t c = let p = c.requires in (omega arith, (p.0, p.1, p.2, omega (arith, p.3), p.4, p.5))
-
-pub returns : goal.returns
-unfolding cell_at
-returns t c = let a = c.outer_agree.ensures.sound (not-false _ c.if-not-outer_agree.false-raw) in
-    let b = c.outer_agree-2.ensures.sound (not-false _ c.if-not-outer_agree-2.false-raw) in
-    outer_last _ _ _ _ _ _ _ _ _ c.top_of-t.ensures.0 c.if-t-eq0.false _ a b c.outer_agree-3.ensures
+returns-else-seen t c =
+    let top = rw c.in-Some.is at c.last_other.ensures.0 in
+    let first = c.outer_agree.ensures.sound c.if-not-outer_agree.false in
+    outer_last _ _ _ _ _ _ _ top _ first
+    (elim c.else-b-a.branch [
+      | else-b-a-via-then-b-a+else-not-outer_agree-2 w ↦ w.outer_agree-then-b-a.ensures.sound w.if-not-outer_agree-2.false
+      | else-b-a-via-else-b-a w ↦ outer_same _ _ _ _ _ _ _ w.if-b-a.false first
+    ])
+    c.outer_agree-else-seen.ensures

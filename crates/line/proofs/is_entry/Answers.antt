@@ -1,33 +1,27 @@
 use mathlib.Core.Path.{sym, ◌∙◌}
-use native.Mathlib.Omega.{arith}
-use lib.Seq.{length-take-le}
-use Rattle.base.proofs.Search.{every_none, every_more}
-use Rattle.line.specs.Told.{hand_of}
-use Rattle.line.proofs.Lines.{entry_of, told_short, unfit, other_length, other_byte, same_byte, all_same}
+use mathlib.Core.List.{[], ◌∷◌, ◌++◌}
+use borrow.Author.Rules.{rules}
+use lib.Dec.{eqb}
+use lib.ListN.{length, get_or}
+use Rattle.base.proofs.Chains.{every_from_all}
+use Rattle.files.specs.Files.{LF}
+use Rattle.handed.specs.Handed.{handed}
+use Rattle.entry.specs.Entry.{entry}
+use Rattle.entry.specs.Draft.{draft}
+use Rattle.line.proofs.Lines.{unfit, other_length, same_bytes_here}
 use Rattle.line.proofs.is_entry.Goals as goal
 
--- `line::is_entry` meets its contract: the first k bytes are those of the entry. Assumes nothing.
+-- `line::is_entry` meets its contract. Assumes nothing.
 
-pub slice_bounds-name-end : goal.slice_bounds-name-end
-slice_bounds-name-end c = sym (length-take-le _ c.args.line.now (told_short c.args.line.now c.read_line-t.result c.read_line-t.ensures))
-
-pub returns-then-whole-eq0 : goal.returns-then-whole-eq0
-returns-then-whole-eq0 c = sym (entry_of c.args.s c.args.line.now c.read_line-t.result c.read_line-t.ensures ∙ unfit c.args.line.now c.args.s (hand_of c.read_line-t.result c.args.line.now) _ c.line_length-whole.ensures c.if-whole-eq0.true)
+pub returns-in_default : goal.returns-in_default
+returns-in_default c = unfit _ c.args.s _ c.read_line-verdict.ensures (sym c.in_default.is ∙ c.line_length.ensures)
 
 pub returns-then-longer : goal.returns-then-longer
-returns-then-longer c = sym (entry_of c.args.s c.args.line.now c.read_line-t.result c.read_line-t.ensures ∙ other_length c.args.line.now c.args.s (hand_of c.read_line-t.result c.args.line.now) _ c.line_length-whole.ensures c.if-whole-eq0.false c.if-longer.true)
-
-pub loop-k-init : goal.loop-k-init
-loop-k-init c = (omega arith, every_none _)
-
-pub returns-then-line-k : goal.returns-then-line-k
-returns-then-line-k c = sym (entry_of c.args.s c.args.line.now c.read_line-t.result c.read_line-t.ensures ∙ other_byte c.args.line.now c.args.s (hand_of c.read_line-t.result c.args.line.now) _ c.line_length-whole.ensures c.if-whole-eq0.false c.if-longer.false _ _ c.loop-k-test.true c.line_byte.ensures c.if-line-k.true)
-
-pub loop-k-preserved : goal.loop-k-preserved
-loop-k-preserved c = (
-  omega arith,
-  every_more _ _ c.loop-k.invariant.1 (same_byte c.args.line.now c.args.s (hand_of c.read_line-t.result c.args.line.now) _ c.line_length-whole.ensures c.if-whole-eq0.false c.if-longer.false _ _ c.loop-k-test.true c.line_byte.ensures c.if-line-k.false),
-)
+returns-then-longer c = other_length _ c.args.s _ c.read_line-verdict.ensures c.in-Some.whole (sym c.in-Some.is ∙ c.line_length.ensures) c.if-longer.true
 
 pub returns : goal.returns
-returns c = sym (entry_of c.args.s c.args.line.now c.read_line-t.result c.read_line-t.ensures ∙ all_same c.args.line.now c.args.s (hand_of c.read_line-t.result c.args.line.now) _ c.line_length-whole.ensures c.if-whole-eq0.false c.if-longer.false c.loop-k.k c.loop-k-test.false c.loop-k.invariant.0 c.loop-k.invariant.1)
+returns c =
+    let l = c.args.line.now in
+    let written = entry c.args.s (draft (handed c.read_line-verdict.result)) ++ (LF ∷ []) in
+    same_bytes_here l c.args.s _ c.read_line-verdict.ensures c.in-Some.whole (sym c.in-Some.is ∙ c.line_length.ensures) c.if-longer.false _
+    (every_from_all (λ k. eqb (get_or l k 0) (get_or written k 0)) (length l) _ _ _ (cc) _ (λ x b q k. search rules) c.all.ensures.ran)

@@ -1,8 +1,8 @@
-use Rattle.std.proofs.Common.{length, suc, ◌-◌, ◌≡◌}
+use Rattle.std.proofs.Common.{length, ◌-◌, ◌≡◌, ◌≤◌}
 use Rattle.lister.proofs.list.Given as goal
 
-abbrev pub invariant-loop-at : goal.invariant-loop-at
-invariant-loop-at g l = (length l.area ≡ length l.initial.area) × (length l.out ≡ length l.initial.out)
+abbrev pub invariant-loop-finding : goal.invariant-loop-finding
+invariant-loop-finding g l = l.at ≤ length l.text
 
-abbrev pub decreases-loop-at : goal.decreases-loop-at
-decreases-loop-at g l = suc (length l.text) - l.at
+abbrev pub decreases-loop-finding : goal.decreases-loop-finding
+decreases-loop-finding g l = length l.text - l.at

@@ -1,14 +1,17 @@
-use Rattle.listing.proofs.Nexts.{table_read, judged_table, never_refused, end_read, refused_read}
+use Rattle.std.specs.Prelude.{None, Some, Ok}
+use Rattle.listing.proofs.Nexts.{tells, judged_table, never_refused, refused_next}
 use Rattle.listing.proofs.next_verdict.Goals as goal
 
-pub returns-in-Found : goal.returns-in-Found
-returns-in-Found c = judged_table _ _ _ _ c.in-Found.f (table_read _ _ _ _ _ (rw c.in-Table.is at c.read-r.ensures)) (rw c.in-Found.is at c.judge-j.ensures)
+pub returns-in_err-next : goal.returns-in_err-next
+returns-in_err-next c = refused_next _ _ _ _ _ _ c.from_residual.ensures.1 c.in_err-next.ensures
 
-pub returns-in-Refused-j : goal.returns-in-Refused-j
-returns-in-Refused-j c = never_refused _ _ _ _ _ _ (table_read _ _ _ _ _ (rw c.in-Table.is at c.read-r.ensures)) (rw c.in-Refused-j.is at c.judge-j.ensures)
+pub returns-in_err-finding-in-Some : goal.returns-in_err-finding-in-Some
+returns-in_err-finding-in-Some c =
+    never_refused _ _ _ _ _ (tells _ _ _ (Ok (Some c.in-Some.next)) _ (rw c.in-Some.is at c.in_ok-next.ensures)) c.in_err-finding-in-Some.ensures
 
-pub returns-in-End : goal.returns-in-End
-returns-in-End c = end_read _ _ _ _ (rw c.in-End.is at c.read-r.ensures)
+pub returns-in_ok-finding-in-Some : goal.returns-in_ok-finding-in-Some
+returns-in_ok-finding-in-Some c =
+    judged_table _ _ _ _ _ (tells _ _ _ (Ok (Some c.in-Some.next)) _ (rw c.in-Some.is at c.in_ok-next.ensures)) c.in_ok-finding-in-Some.ensures
 
-pub returns-in-Refused : goal.returns-in-Refused
-returns-in-Refused c = refused_read _ _ _ _ _ _ (rw c.in-Refused.is at c.read-r.ensures)
+pub returns-in-None : goal.returns-in-None
+returns-in-None c = tells _ _ _ (Ok None) _ (rw c.in-None.is at c.in_ok-next.ensures)

@@ -3,7 +3,4 @@ use Rattle.memo.proofs.Offers.{From}
 use Rattle.memo.proofs.cell_row.Given as goal
 
 abbrev pub invariant-loop-i : goal.invariant-loop-i
-invariant-loop-i l = From (decode l.a) l.k l.i l.s
-
-abbrev pub decreases-loop-i : goal.decreases-loop-i
-decreases-loop-i l = l.i
+invariant-loop-i l = From (decode l.area) l.k l.i l.sets

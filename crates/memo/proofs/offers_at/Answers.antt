@@ -5,10 +5,10 @@ use Rattle.memo.proofs.Offers.{column_symbol, column_state}
 use Rattle.memo.proofs.offers_at.Goals as goal
 
 pub returns-then-k-inputs : goal.returns-then-k-inputs
-returns-then-k-inputs c = let h = rw c.inputs.ensures at c.if-k-inputs.true in c.wide.ensures ∙ c.offers_in.ensures ∙ ap offers (sym (column_symbol _ _ _ h))
+returns-then-k-inputs c = let h = rw c.inputs.ensures at c.if-k-inputs.true in c.from.ensures ∙ c.offers_in.ensures ∙ ap offers (sym (column_symbol _ _ _ h))
 
 pub returns : goal.returns
 returns c =
     let h = rw c.inputs.ensures at c.if-k-inputs.false in
-    let e = ap offers (column_state (decode c.args.a.now) c.args.i c.args.k h) in
+    let e = ap offers (column_state (decode c.args.area.now) c.args.i c.args.k h) in
     cc

@@ -1,21 +1,11 @@
-use native.Mathlib.Omega.{arith}
+use Rattle.memo.specs.Rows.{cell_at}
 use Rattle.pair.proofs.Steps.{entry_stays, entry_goes}
 use Rattle.pair.proofs.entry.Goals as goal
 
 pub returns-then-x-d : goal.returns-then-x-d
-returns-then-x-d c = (λ t W. entry_stays t _ _ _ W _ _ _ _ _ c.if-x-d.true, c.requires.4)
-
-pub cell_at-requires : goal.cell_at-requires
-cell_at-requires c = (omega arith, omega arith)
-
-pub cell_at-requires-2 : goal.cell_at-requires-2
-cell_at-requires-2 c = (omega arith, omega arith)
-
-pub cell_at-requires-3 : goal.cell_at-requires-3
-cell_at-requires-3 c = (omega arith, omega arith)
-
-pub out_by-requires : goal.out_by-requires
-out_by-requires c = (omega arith, omega arith)
+unfolding cell_at
+returns-then-x-d c = (λ t M. entry_stays t _ _ _ _ _ _ c.if-x-d.true, c.requires.3)
 
 pub returns : goal.returns
-returns c = (λ t W. entry_goes t _ _ _ W _ _ _ _ _ _ _ _ _ c.requires.4 c.if-x-d.false c.cell_at.ensures c.cell_at-2.ensures c.cell_at-3.ensures (c.out_by.ensures.0 t W.outputs_are W.rows_are), c.out_by.ensures.1)
+unfolding cell_at
+returns c = (λ t M. entry_goes t _ _ _ _ _ _ _ M.small M.cells_are c.requires.3 c.if-x-d.false (c.out_by.ensures.0 t M), c.out_by.ensures.1)

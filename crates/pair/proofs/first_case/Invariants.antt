@@ -1,12 +1,11 @@
-use Prim.Native.Nat.{ℕ, ◌<◌, ◌≤◌, ◌-◌}
+use Prim.Native.Nat.{ℕ, ◌<◌}
 use mathlib.Core.Path.{◌≡◌}
 use mathlib.Core.Bool.{false}
 use Rattle.table.specs.Table.{Table}
-use Rattle.pair.specs.Search.{Known, differs_by}
+use Rattle.memo.specs.Memo.{MemoOf}
+use Rattle.pair.specs.Search.{differs_by}
 use Rattle.pair.proofs.first_case.Given as goal
 
 abbrev pub invariant-loop-c : goal.invariant-loop-c
-invariant-loop-c l = (l.c ≤ 27) × ((t : Table) → Known t l.s l.outs l.m → (k : ℕ) → k < l.c → differs_by t l.s l.i l.j l.rest l.a l.b k ≡ false)
-
-abbrev pub decreases-loop-c : goal.decreases-loop-c
-decreases-loop-c l = 27 - l.c
+invariant-loop-c l = (t : Table) → MemoOf t l.memo → (k : ℕ) → k < l.c →
+    differs_by t l.memo.cells l.start.first l.start.second l.start.rest l.start.first_was l.start.second_was k ≡ false

@@ -4,8 +4,5 @@ use Rattle.symbol.specs.Masks.{mask_from}
 use Rattle.plain.specs.Plain.{firm_at}
 use Rattle.plain.proofs.firm_rows.Given as goal
 
-abbrev pub invariant-loop-i : goal.invariant-loop-i
-invariant-loop-i l = (l.i ≤ l.m) × (l.w ≡ mask_from (firm_at l.outs) l.i (l.m - l.i))
-
-abbrev pub decreases-loop-i : goal.decreases-loop-i
-decreases-loop-i l = l.i
+abbrev pub invariant-loop-k : goal.invariant-loop-k
+invariant-loop-k l = (l.k ≤ l.fn.rows) × (l.firm ≡ mask_from (firm_at l.outputs) l.k (l.fn.rows - l.k))

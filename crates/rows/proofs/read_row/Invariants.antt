@@ -7,7 +7,7 @@ use mathlib.Core.Path.{◌≡◌}
 use Rattle.rows.proofs.read_row.Given as goal
 
 abbrev pub invariant-loop-column : goal.invariant-loop-column
-invariant-loop-column l = (columns l.n l.sequential l.at (drop l.at l.text) ≡ behind (take l.column l.symbols) (columns (l.n - l.column) l.edge l.i (drop l.i l.text))) × (l.column ≤ l.n) × (length l.symbols ≡ input_limit)
-
-abbrev pub decreases-loop-column : goal.decreases-loop-column
-decreases-loop-column l = l.n - l.column
+invariant-loop-column l =
+    (columns l.n l.sequential l.at (drop l.at l.text) ≡ behind (take l.column l.symbols) (columns (l.n - l.column) l.edge l.i (drop l.i l.text)))
+    × (l.column ≤ l.n)
+    × (length l.symbols ≡ input_limit)

@@ -1,20 +1,17 @@
-use native.Mathlib.Omega.{arith}
-use borrow.Author.Tests.{ne_eqb}
-use Rattle.text.proofs.Blanklaws.{line_cons, line_nil}
+use Rattle.std.proofs.Common.{ℕ, Bool, ◌∙◌, eqb, not, rules, tests}
+use Rattle.std.proofs.lemmas.Iterator.{YieldsList-from_slice}
+use Rattle.std.proofs.lemmas.Iterator.Consumers.{count_from_yields_List}
+use Rattle.std.proofs.lemmas.Iterator.Search.{YieldsList-from_take_while}
+use Rattle.std.proofs.lemmas.List.Folds.{length-prefix_len}
+use Rattle.text.proofs.Blanklaws.{line_is}
 use Rattle.text.proofs.to_line.Goals as goal
 
-pub loop-i-init : goal.loop-i-init
-loop-i-init c = (omega arith, omega arith)
-
-pub returns-then-at_lf : goal.returns-then-at_lf
-returns-then-at_lf c = let l = c.loop-i in
-    let t = c.args.text.now in
-    omega (arith, l.invariant.0, rw c.if-at_lf.true at (line_cons t l.i c.loop-i-test.true))
-
-pub loop-i-preserved : goal.loop-i-preserved
-loop-i-preserved c = let l = c.loop-i in
-    let t = c.args.text.now in
-    omega (arith, l.invariant.0, rw (ne_eqb _ _ c.if-at_lf.false) at (line_cons t l.i c.loop-i-test.true))
-
 pub returns : goal.returns
-returns c = let l = c.loop-i in omega (arith, l.invariant.0, line_nil c.args.text.now l.i c.loop-i-test.false)
+returns c =
+    let s = c.args.s.now in
+    let before_lf : ℕ → Bool = λ b. not (eqb b 10) in
+    count_from_yields_List c.take_while.result _ c.count.ensures.ran
+    (YieldsList-from_take_while _ before_lf (YieldsList-from_slice s cc) c.take_while.ensures.closure c.take_while.ensures.done
+    (λ x b q k. search (rules, tests)))
+    ∙ length-prefix_len before_lf s
+    ∙ line_is s

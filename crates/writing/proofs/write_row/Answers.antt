@@ -1,120 +1,56 @@
 use Prim.Native.Nat.{◌+◌, ◌-◌, ◌*◌, ◌≤◌}
 use mathlib.Core.Path.{◌≡◌, sym, ◌∙◌}
 use native.Mathlib.Omega.{arith}
-use borrow.Author.Tests.{not-true, not-false}
-use lib.ListN.{length-set}
-use Rattle.base.proofs.Patched.{patched_none, patched_more}
-use Rattle.base.specs.Limits.{input_limit}
-use Rattle.table.specs.Places.{row_size, count_at}
-use Rattle.writing.specs.Written.{row_written}
-use Rattle.writing.proofs.Headlaws.{room_of, patched_from, patched_next}
-use Rattle.writing.proofs.Rowlaws.{from_part, row_patched, row_left}
+use lib.ListN.{length, get_or, length-take}
+use borrow.Author.Rules.{rules}
+use Rattle.base.proofs.Patched.{patched_listed}
+use Rattle.table.specs.Places.{inputs_at, count_at, rows_at, row_size}
+use Rattle.table.specs.Area.{row_byte}
+use Rattle.table.proofs.Encoding.{decode_inputs, decode_count}
+use Rattle.writing.specs.Written.{row_from, row_written}
+use Rattle.writing.proofs.Headlaws.{room_of}
+use Rattle.writing.proofs.Rowlaws.{row_left}
 use Rattle.writing.proofs.write_row.Goals as goal
 
 pub returns-then-not-has_room : goal.returns-then-not-has_room
 unfolding row_written
-returns-then-not-has_room c = rw (← c.has_room.ensures, not-true c.has_room.result c.if-not-has_room.true-raw)
-
-pub bounds-a-34 : goal.bounds-a-34
-unfolding row_written
-bounds-a-34 c = omega (arith, (room_of _ (sym c.has_room.ensures ∙ not-false _ c.if-not-has_room.false-raw)).long)
-
-pub bounds-a-36 : goal.bounds-a-36
-unfolding row_written
-bounds-a-36 c = omega (arith, (room_of _ (sym c.has_room.ensures ∙ not-false _ c.if-not-has_room.false-raw)).long)
+returns-then-not-has_room c = rw (← c.if-not-has_room.ensures)
 
 pub overflow_mul-at : goal.overflow_mul-at
-unfolding row_written
-overflow_mul-at c = omega (arith, (room_of _ (sym c.has_room.ensures ∙ not-false _ c.if-not-has_room.false-raw)).rows, c.wide.ensures)
+overflow_mul-at c =
+    omega (arith, (room_of _ (sym c.if-not-has_room.ensures)).rows, c.rows.ensures, decode_count c.args.a.now)
 
 pub overflow_add-at : goal.overflow_add-at
-unfolding row_written
-overflow_add-at c = omega (arith, (room_of _ (sym c.has_room.ensures ∙ not-false _ c.if-not-has_room.false-raw)).rows, c.wide.ensures)
+overflow_add-at c =
+    omega (arith, (room_of _ (sym c.if-not-has_room.ensures)).rows, c.rows.ensures, decode_count c.args.a.now)
 
-pub loop-k-init : goal.loop-k-init
-unfolding row_written
-loop-k-init c = (omega arith, patched_none _ _ _)
+pub overflow_add-row : goal.overflow_add-row
+overflow_add-row c =
+    omega (arith, (room_of _ (sym c.if-not-has_room.ensures)).rows, c.rows.ensures, decode_count c.args.a.now)
 
-pub overflow_mul-n : goal.overflow_mul-n
-unfolding row_written
-overflow_mul-n c = omega (arith, (room_of _ (sym c.has_room.ensures ∙ not-false _ c.if-not-has_room.false-raw)).inputs, c.wide-n.ensures)
+pub slice_bounds-row-end : goal.slice_bounds-row-end
+slice_bounds-row-end c =
+    let room = room_of _ (sym c.if-not-has_room.ensures) in
+    let fits : rows_at + c.rows.result * row_size + row_size ≤ length c.args.a.now
+    = omega (arith, room.long, room.rows, c.rows.ensures, decode_count c.args.a.now) in
+    search rules
 
-pub offset_bounds-symbols-m : goal.offset_bounds-symbols-m
-unfolding row_written
-offset_bounds-symbols-m c = omega (arith, (room_of _ (sym c.has_room.ensures ∙ not-false _ c.if-not-has_room.false-raw)).inputs, c.wide-n.ensures)
+pub slice_bounds-symbols-end : goal.slice_bounds-symbols-end
+slice_bounds-symbols-end c =
+    omega (arith, (room_of _ (sym c.if-not-has_room.ensures)).inputs, c.inputs-n.ensures, decode_inputs c.args.a.now)
 
-pub bounds-symbols-m : goal.bounds-symbols-m
-bounds-symbols-m c =
-    omega (arith, (room_of _ (sym c.has_room.ensures ∙ not-false _ c.if-not-has_room.false-raw)).inputs, c.wide-n.ensures)
-
-pub overflow_add-a : goal.overflow_add-a
-unfolding row_written
-overflow_add-a c = let r = room_of _ (sym c.has_room.ensures ∙ not-false _ c.if-not-has_room.false-raw) in omega (arith, r.inputs, r.rows, c.wide.ensures, c.wide-n.ensures)
-
-pub bounds-a-at : goal.bounds-a-at
-bounds-a-at c =
-    let r = room_of _ (sym c.has_room.ensures ∙ not-false _ c.if-not-has_room.false-raw) in
-    omega (arith, r.inputs, r.rows, r.long, c.wide.ensures, c.wide-n.ensures, c.loop-k.invariant.1.long)
-
-pub overflow_add-k : goal.overflow_add-k
-unfolding row_written
-overflow_add-k c = omega (arith, (room_of _ (sym c.has_room.ensures ∙ not-false _ c.if-not-has_room.false-raw)).inputs, c.wide-n.ensures)
-
-pub loop-k-preserved : goal.loop-k-preserved
-loop-k-preserved c =
-    let r = room_of _ (sym c.has_room.ensures ∙ not-false _ c.if-not-has_room.false-raw) in
-    let a = c.args in
-    let few : c.wide-n.result ≤ input_limit = omega (arith, r.inputs, c.wide-n.ensures) in (
-      omega arith,
-      patched_more _ _ _ _ _ _ (omega (arith, r.rows, r.long, c.wide.ensures))
-          (c.symbol_part.ensures ∙ sym (from_part c.wide-n.result a.symbols a.state a.output (omega arith) c.loop-k.k c.loop-k-test.true))
-          c.loop-k.invariant.1,
-    )
-
-pub loop-k-2-init : goal.loop-k-2-init
-loop-k-2-init c =
-    let r = room_of _ (sym c.has_room.ensures ∙ not-false _ c.if-not-has_room.false-raw) in
-    (omega arith, omega (arith, r.inputs, c.wide-n.ensures), patched_from _ _ _ _)
-
-pub overflow_add-a-in-loop-k-2 : goal.overflow_add-a-in-loop-k-2
-unfolding row_written
-overflow_add-a-in-loop-k-2 c = omega (arith, (room_of _ (sym c.has_room.ensures ∙ not-false _ c.if-not-has_room.false-raw)).rows, c.wide.ensures)
-
-pub bounds-a-at-in-loop-k-2 : goal.bounds-a-at-in-loop-k-2
-unfolding row_written
-bounds-a-at-in-loop-k-2 c = let r = room_of _ (sym c.has_room.ensures ∙ not-false _ c.if-not-has_room.false-raw) in omega (arith, r.rows, r.long, c.wide.ensures, c.loop-k-2.invariant.2.long, c.loop-k.invariant.1.long)
-
-pub loop-k-2-preserved : goal.loop-k-2-preserved
-loop-k-2-preserved c =
-    let r = room_of _ (sym c.has_room.ensures ∙ not-false _ c.if-not-has_room.false-raw) in
-    let l = c.loop-k-2 in
-    let e : c.loop-k.k + (l.k - c.loop-k.k) ≡ l.k = omega (arith, l.invariant.0) in
-    (omega (arith, l.invariant.0), omega arith, patched_next _ _ _ l.k _ _ _ _ l.invariant.0 (omega (arith, l.invariant.0)) (omega (arith, r.rows, r.long, c.wide.ensures, c.loop-k.invariant.1.long)) (rw e c.last_byte.ensures) l.invariant.2)
-
-pub bounds-a-counted : goal.bounds-a-counted
-unfolding row_written
-bounds-a-counted c = omega (arith, (room_of _ (sym c.has_room.ensures ∙ not-false _ c.if-not-has_room.false-raw)).long, c.loop-k-2.invariant.2.long, c.loop-k.invariant.1.long)
-
-pub overflow_add-a-2 : goal.overflow_add-a-2
-unfolding row_written
-overflow_add-a-2 c = omega (arith, (room_of _ (sym c.has_room.ensures ∙ not-false _ c.if-not-has_room.false-raw)).rows, c.loop-k-2.invariant.2.below count_at (omega arith), c.loop-k.invariant.1.below count_at (omega arith))
-
-pub bounds-a-counted-2 : goal.bounds-a-counted-2
-unfolding row_written
-bounds-a-counted-2 c = omega (arith, (room_of _ (sym c.has_room.ensures ∙ not-false _ c.if-not-has_room.false-raw)).long, c.loop-k-2.invariant.2.long, c.loop-k.invariant.1.long)
-
-pub shape_of-a : goal.shape_of-a
-unfolding row_written
-shape_of-a c = simp length-set (c.loop-k-2.invariant.2.long ∙ c.loop-k.invariant.1.long)
+pub slice_bounds-fill_row-end : goal.slice_bounds-fill_row-end
+slice_bounds-fill_row-end c =
+    simp length-take (omega (arith, (room_of _ (sym c.if-not-has_room.ensures)).inputs, c.inputs-n.ensures, decode_inputs c.args.a.now))
 
 pub returns : goal.returns
-unfolding row_written
+unfolding row_written row_from
 returns c =
-    let r = room_of _ (sym c.has_room.ensures ∙ not-false _ c.if-not-has_room.false-raw) in
-    let a = c.args in
-    let s : c.loop-k.k ≡ 2 * c.wide-n.result = omega (arith, c.loop-k.invariant.0) in
-    let e : c.loop-k-2.k ≡ row_size = omega arith in
-    let few : c.wide-n.result ≤ input_limit = omega (arith, r.inputs, c.wide-n.ensures) in
-    rw (← c.has_room.ensures, not-false c.has_room.result c.if-not-has_room.false-raw)
-    (row_left _ _ _ r.long r.rows (rw (c.wide-n.ensures, c.wide.ensures) at
-    (row_patched c.wide-n.result a.symbols a.state a.output (omega arith) _ c.loop-k.a _ _ few (rw s at c.loop-k.invariant.1) (rw (s, e) at c.loop-k-2.invariant.2))))
+    let a = c.args.a.now in
+    let room = room_of a (sym c.if-not-has_room.ensures) in
+    let r = row_from (get_or a inputs_at 0) c.args.symbols c.args.state c.args.output in
+    let inputs : c.inputs-n.result ≡ get_or a inputs_at 0 = c.inputs-n.ensures ∙ decode_inputs a in
+    let rows : c.rows.result ≡ get_or a count_at 0 = c.rows.ensures ∙ decode_count a in
+    let size : rows_at + c.rows.result * row_size + row_size - (rows_at + c.rows.result * row_size) ≡ row_size = omega arith in
+    let written = patched_listed (row_byte r) (rows_at + get_or a count_at 0 * row_size) row_size a (omega (arith, room.long, room.rows)) in
+    rw (size, c.fill_row.ensures, inputs, rows, ← c.if-not-has_room.ensures) (row_left a _ r room.long room.rows written)

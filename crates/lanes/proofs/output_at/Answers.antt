@@ -1,9 +1,0 @@
-use native.Mathlib.Omega.{arith}
-use Rattle.orders.proofs.Candidates.{rank_low}
-use Rattle.lanes.proofs.output_at.Goals as goal
-
-pub overflow_cast-result : goal.overflow_cast-result
-overflow_cast-result c = omega (arith, c.to_rank.ensures, rank_low c.result_of.result)
-
-pub returns : goal.returns
-returns c = rw (c.to_rank.ensures, c.result_of.ensures, c.from_rank.ensures, c.output_in.ensures)

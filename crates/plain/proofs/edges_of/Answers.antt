@@ -1,5 +1,0 @@
-use Rattle.plain.proofs.Sets.{edges_first, edges_second}
-use Rattle.plain.proofs.edges_of.Goals as goal
-
-pub returns : goal.returns
-returns c = (edges_first _ _ c.edge_rows.result c.edge_rows-2.result c.edge_rows.ensures, edges_second _ _ c.edge_rows.result c.edge_rows-2.result c.edge_rows-2.ensures)
