@@ -1,5 +1,5 @@
 -- What a field says, read behind blanks. Assumes nothing.
-use Rattle.std.proofs.Common.{◌≡◌, ℕ, ◌+◌, Bool, true, false, List, [], drop, Option, Some, None, Result, Ok, Err, refl}
+use Rattle.std.proofs.Common.{◌≡◌, ℕ, ◌+◌, Bool, true, false, cond, List, [], drop, Option, Some, None, Result, refl}
 use Rattle.std.specs.Prelude.{ok_or}
 use Rattle.refusal.specs.declared.Refusal.{Refusal}
 use Rattle.refusal.specs.declared.Fault.TheVariants.{Symbol as SymbolFault}
@@ -7,17 +7,12 @@ use Rattle.symbol.specs.declared.Symbol.{Symbol}
 use Rattle.symbol.specs.declared.Symbol.TheVariants.{Edge}
 use Rattle.text.specs.Bytes.{is_symbol}
 use Rattle.text.specs.Blanks.{one, begins}
-use Rattle.text.specs.Reader.{got, refused, ◌>>=◌, ◌>>◌, bind, give, need, check, if, skip, said, mark}
-use Rattle.text.specs.Places.{meant, ended, stood}
+use Rattle.text.specs.Reader.{got, refused, ◌>>=◌, ◌>>◌, bind, give, need, check, if, skip, said, mark, fault}
+use Rattle.text.specs.Places.{meant, stood}
 use Rattle.text.proofs.Blanklaws.{skip_still}
 use Rattle.text.proofs.Readlaws.{mark_at, ahead_is, ahead_one}
 use Rattle.grammar.specs.Rows.{Written, symbol, written_of, state_of, column_of, written, saying, field, columns}
 use Rattle.fields.specs.Pieces.{written_as, column}
-
--- what is read in its place
-pub in_place : {A B : Type 0} (t : List ℕ) (a : A) (b : B) (r : Result ℕ Refusal) → bind (ended t a r) (λ x. give b) ≡ ended t b r
-in_place t a b (Ok e) = refl
-in_place t a b (Err r) = refl
 
 module _ (t : List ℕ) where
   -- what says nothing is 8
@@ -53,6 +48,12 @@ module _ (t : List ℕ) where
       pub column_few : (edge : Bool) → one 58 (drop i t) ≡ true → column edge at (drop at t) ≡ refused 7 i
       unfolding column ◌>>=◌ check
       column_few edge c = rw (blank, ahead_one 58 i (drop i t), c)
+
+      -- a sign where no blank is left
+      pub mark_still : (c : ℕ) → mark c i (drop i t)
+          ≡ cond (one c (drop i t)) (got c (i + 1) (drop (i + 1) t)) (fault i (drop i t))
+      unfolding mark ◌>>=◌
+      mark_still c = rw (skip_still at i (drop at t) (drop i t) blank, mark_at t i c)
 
       -- the colon behind the columns
       pub colon_is : (edge : Bool) → begins is_symbol (drop i t) ≡ false → columns 0 edge at (drop at t) ≡ bind (mark 58 i (drop i t)) (λ x. give [])

@@ -138,7 +138,10 @@ pub fn read_colon(text: &[u8], at: usize, edge: bool) -> Result<usize, Refusal>
     if symbol_at(text, p) {
         return Err(Fault::Columns.at(p));
     }
-    text::read_mark(text, p, b':')
+    if text::one_at(text, p, b':') {
+        return Ok(p + 1);
+    }
+    Err(text::fault_at(text, p))
 }
 
 // A state with its colon; a combinational row's state counts as `?`.

@@ -1,5 +1,5 @@
 -- Words and names at a place of a text. Assumes nothing.
-use Rattle.std.proofs.Common.{◌≡◌, ℕ, suc, ◌+◌, ◌-◌, ◌<◌, eqb, nat_eq, length, get_or, take, drop, refl, sym, arith, drop-drop, add-zero}
+use Rattle.std.proofs.Common.{◌≡◌, ℕ, suc, ◌+◌, ◌-◌, ◌<◌, eqb, nat_eq, length, get_or, take, drop, refl, sym, subst, arith, drop-drop, add-zero}
 use mathlib.Core.Bool.{Bool, true, false, cond, ◌&&◌, not}
 use mathlib.Core.List.{List, [], ◌∷◌}
 use Rattle.std.specs.Cmp.Lexicographic.{pointwise}
@@ -9,7 +9,7 @@ use lib.ListN.{length-drop}
 use lib.Seq.{take_all}
 use Rattle.base.proofs.Bools.{both, clash}
 use Rattle.text.specs.Bytes.{starts, in_name}
-use Rattle.text.specs.Reader.{got, run, with}
+use Rattle.text.specs.Reader.{Result, got, refused, run, with}
 use Rattle.text.specs.Places.{part}
 use Rattle.text.proofs.Blanklaws.{eqb_swap}
 use Rattle.text.specs.Words.{same, member, keywords, all_in_name, is_name}
@@ -58,10 +58,22 @@ unfolding is_name
 name_cons [] h = absurd (omega arith)
 name_cons (b ∷ l) h = refl
 
+-- a name goes on behind its first byte
+pub name_rest : (s : List ℕ) → 0 < length s
+    → is_name s ≡ (starts (get_or s 0 0) && all_in_name (take (length s - 1) (drop 1 s)) && not (member s keywords))
+name_rest s h = rw rest_is (name_cons s h)
+
 pub name_nil : (s : List ℕ) → length s ≡ 0 → is_name s ≡ false
 unfolding is_name
 name_nil [] h = refl
 name_nil (b ∷ l) h = absurd (omega arith)
+
+-- a run of name bytes is a name by its first byte
+pub name_run : (s : List ℕ) → 0 < length s → all_in_name s ≡ true
+    → is_name s ≡ (starts (get_or s 0 0) && not (member s keywords))
+unfolding is_name
+name_run [] h e = absurd (omega arith)
+name_run (b ∷ l) h e = rw (both (in_name b) (all_in_name l) e).1 (grind arith)
 
 -- ---- the longest run of name bytes
 
@@ -82,3 +94,20 @@ pub run_part : (t : List ℕ) (i n : ℕ) → n ≡ prefix_len in_name (drop i t
 run_part t i n e =
     let h : i + n - i ≡ n = omega arith in
     rw (h, run_is i (drop i t), drop-drop, ← e)
+
+-- all its bytes are name bytes
+abbrev InName : Result (List ℕ) → Type 0
+InName (got w k s) = all_in_name w ≡ true
+InName (refused c p) = Unit {0}
+
+run_all : (k : ℕ) (s : List ℕ) → InName (run k s)
+run_all k [] = refl
+run_all k (b ∷ l) = go (in_name b) refl (run (suc k) l) (run_all (suc k) l)
+  where
+    go : (c : Bool) → in_name b ≡ c → (r : Result (List ℕ)) → InName r → InName (cond c (with b r) (got [] k (b ∷ l)))
+    go true e (got w j r) h = rw (e, h)
+    go true e (refused c p) h = tt
+    go false e r h = refl
+
+pub run_in_name : (k : ℕ) (s w : List ℕ) (r : ℕ) (u : List ℕ) → run k s ≡ got w r u → all_in_name w ≡ true
+run_in_name k s w r u e = subst InName e (run_all k s)

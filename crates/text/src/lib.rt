@@ -1,9 +1,9 @@
 #![tactic(auto)]
 
 // Byte classes, blanks and comments, words and names of the text.
-ghost use Rattle.std.specs.Prelude.{◌≡◌, cond, drop};
+ghost use Rattle.std.specs.Prelude.{◌≡◌, true, cond, drop};
 ghost use Rattle.text.specs.Bytes.{class_of, num_of, is_blank, starts, in_name, is_symbol};
-ghost use Rattle.text.specs.Words.{member, keywords, is_name, name_fits};
+ghost use Rattle.text.specs.Words.{member, keywords, all_in_name, is_name, name_fits};
 ghost use Rattle.text.specs.Blanks.{one, to_line, to_close, gap, endless};
 ghost use Rattle.text.specs.Reader.{got, skip, run, mark, either_mark, keyword, name};
 ghost use Rattle.text.specs.Places.{part as part_of, ended, stood, named};
@@ -70,7 +70,7 @@ pub fn is_symbol(b: u8) -> bool
 }
 
 // The words that are no names.
-const KEYWORDS: [&[u8]; 8] = [
+static KEYWORDS: [&[u8]; 8] = [
     b"primitive",
     b"output",
     b"input",
@@ -87,14 +87,33 @@ pub fn is_keyword(w: &[u8]) -> bool
     KEYWORDS.contains(&w)
 }
 
+// A name goes on with each of the bytes.
+fn all_in_name(s: &[u8]) -> bool
+    ensures { result ≡ all_in_name s.now }
+{
+    s.iter().all(|b| in_name(*b))
+}
+
+#[tactic(auto, using(crate::proofs::Wordlaws::name_nil, crate::proofs::Wordlaws::name_rest))]
 pub fn is_name(s: &[u8]) -> bool
     ensures { result ≡ is_name s.now }
 {
-    let [first, others @ ..] = s else {
-        return false;
-    };
-    let goes_on = others.iter().all(|b| in_name(*b));
-    starts_name(*first) & goes_on & !is_keyword(s)
+    match s {
+        [first, others @ ..] if starts_name(*first) => all_in_name(others) && !is_keyword(s),
+        _ => false,
+    }
+}
+
+// A run of name bytes is a name by its first byte, unless it is one of the words.
+#[tactic(auto, using(crate::proofs::Wordlaws::name_nil, crate::proofs::Wordlaws::name_run))]
+fn run_is_name(w: &[u8]) -> bool
+    requires { all_in_name w.now ≡ true }
+    ensures { result ≡ is_name w.now }
+{
+    match w {
+        [first, ..] if starts_name(*first) => !is_keyword(w),
+        _ => false,
+    }
 }
 
 // A name that is not too long.
@@ -102,7 +121,7 @@ pub fn is_name(s: &[u8]) -> bool
 pub fn name_fits(s: &[u8]) -> bool
     ensures { result ≡ name_fits s.now }
 {
-    is_name(s) & (s.len() <= base::NAME)
+    s.len() <= base::NAME && is_name(s)
 }
 
 // The text from a place on.
@@ -160,7 +179,10 @@ fn skip_gaps(text: &[u8], at: usize) -> usize
     let mut i = at;
     // Stays: the next place is as far as the gap is long, which no `for` and no iterator says.
     loop {
-        match gap(rest(text, i)) {
+        if text.len() <= i {
+            return i;
+        }
+        match gap(&text[i..]) {
             0 => return i,
             g => i += g,
         }
@@ -265,7 +287,7 @@ pub fn read_name(text: &[u8], at: usize) -> Result<Span, Refusal>
     let start = skip_from(text, at);
     let end = word_end(text, start);
     let word = part(text, start, end);
-    if !is_name(word) {
+    if !run_is_name(word) {
         return Err(fault_at(text, start));
     }
     if base::NAME < word.len() {
