@@ -1,28 +1,41 @@
 -- What the sets of a row tell of its columns, and the rows that have been read. Assumes nothing.
 use Prim.Native.Nat.{ℕ, ◌+◌, ◌%◌, ◌<◌, ◌≤◌}
-use mathlib.Core.Path.{◌≡◌, sym}
-use mathlib.Core.Bool.{Bool, true, false, not, ◌&&◌, ◌||◌}
+use mathlib.Core.Path.{◌≡◌, refl, sym, ap, ◌∙◌}
+use mathlib.Core.Bool.{Bool, true, false, not, not-not, ◌&&◌, ◌||◌}
 use mathlib.Core.List.{List, []}
 use mathlib.Core.Logic.{⊎_elim}
 use native.Mathlib.Nat.{eq-or-lt_of_le}
 use native.Mathlib.Omega.{arith}
+use lib.Bits.{bit_and}
 use lib.Dec.{eqb}
 use lib.ListN.{length, get_or, set, take, length-set}
 use lib.Seq.{get_or-set_same, get_or-set_other}
-use borrow.Author.Tests.{eq-eqb, ne_eqb, lt-ltb, le-ltb}
+use denote.Enum.Bare.{sameb, same_true, same_false}
+use borrow.Author.Rules.{rules}
+use borrow.Author.Tests.{eqb-true, eq-eqb, ne_eqb, lt-ltb, le-ltb}
 use Rattle.std.specs.Prelude.{Option, Some}
 use Rattle.std.specs.Option.{is_some, is_none, option_eq}
-use Rattle.std.proofs.lemmas.List.{get_or-take, length-take-le}
+use Rattle.std.proofs.lemmas.List.{get_or-take, take-set, length-take-le}
 use Rattle.base.specs.Search.{first, found}
 use Rattle.base.proofs.Bools.{lt_or_ge}
 use Rattle.base.proofs.Search.{first_below, first_none}
 use Rattle.table.specs.Match.{edge_at}
 use Rattle.symbol.specs.declared.Symbol.{Symbol}
-use Rattle.symbol.specs.Match.{is_edge}
+use Rattle.symbol.specs.contracts.Output.{the_type}
+use Rattle.symbol.specs.declared.Output.{Output}
+use Rattle.symbol.specs.declared.Level.{Level}
+use Rattle.symbol.specs.declared.Level.TheVariants.{Any}
+use Rattle.symbol.specs.declared.Symbol.TheVariants.{Held}
+use Rattle.stored.specs.Stored.{level_byte, output_byte}
+use Rattle.symbol.specs.Match.{is_edge, meet}
 use Rattle.symbol.specs.Masks.{offers}
-use Rattle.symbol.proofs.Offers.{possible_offers, edge_offers}
-use Rattle.table.specs.Table.{Row, Table, symbol_at}
-use Rattle.formed.specs.Tests.{column_valid}
+use Rattle.symbol.proofs.Offers.{meet_offers, possible_offers, edge_offers}
+use Rattle.offers.proofs.Offers.{any_offers}
+use Rattle.table.specs.Table.{Row, Table, any_symbol, row_at, symbol_at}
+use Rattle.table.specs.Area.{decode}
+use Rattle.table.proofs.Encoding.{decode_no_symbol, decode_no_column}
+use Rattle.formed.specs.Tests.{same_output, levels_meet, columns_meet, contradict, column_valid}
+use Rattle.formed.proofs.Contradiction.{same_output_lem}
 use Rattle.formed.specs.declared.Cells.{Cells}
 use Rattle.formed.specs.Cells.{CellsOf, CellsOfRows}
 
@@ -32,6 +45,48 @@ set_edge s x p = rw p (sym (edge_offers s))
 pub set_valid : (s : Symbol) (x : ℕ) (here : Bool) → x ≡ offers s → (not (eqb x 0) && (not (eqb (x % 8) 0) || here)) ≡ column_valid s here
 unfolding column_valid
 set_valid s x here p = rw (p, possible_offers s, edge_offers s)
+
+-- two sets that share an offer are those of symbols that meet
+pub sets_meet : (s u : Symbol) (x y : ℕ) → x ≡ offers s → y ≡ offers u → meet s u ≡ not (eqb (bit_and x y) 0)
+sets_meet s u x y p q = rw (p, q) (meet_offers s u)
+
+pub states_by : (l m : Level) (x y : ℕ) → x ≡ offers (Held l) → y ≡ offers (Held m) →
+    levels_meet l m ≡ not (eqb (bit_and x y) 0)
+unfolding levels_meet
+states_by l m x y p q = sets_meet (Held l) (Held m) x y p q
+
+-- past the last row and the last column each symbol is ?
+no_symbol : (a : List ℕ) (i k : ℕ) → (decode a).inputs ≤ k → symbol_at (row_at (decode a) i) k ≡ any_symbol
+no_symbol a i k h =
+    ⊎_elim
+    (λ (l : i < length (decode a).rows). decode_no_column a i k l h)
+    (λ (g : length (decode a).rows ≤ i). decode_no_symbol a i k g)
+    (lt_or_ge i (length (decode a).rows))
+
+pub past_offers : (a : List ℕ) (i k : ℕ) → (decode a).inputs ≤ k → 7 ≡ offers (symbol_at (row_at (decode a) i) k)
+unfolding level_byte
+past_offers a i k h = rw (no_symbol a i k h) (sym (eqb-true (offers any_symbol) 7 (sym (any_offers Any))))
+
+-- the comparison of two outputs is that of their bytes
+same_bytes : (o u : Output) (b : Bool) → sameb the_type o u ≡ b → same_output o u ≡ b
+unfolding same_output
+same_bytes o u true e = eq-eqb _ _ (ap output_byte (same_true the_type (search rules) o u e))
+same_bytes o u false e = ne_eqb _ _ (λ w. same_false the_type o u e (same_output_lem o u w))
+
+pub outputs_by : (v w o u : Output) → o ≡ v → u ≡ w → (b : Bool) → b ≡ not (sameb the_type o u) →
+    same_output v w ≡ not b
+outputs_by v w o u p q b e = rw (← p, ← q, e) (same_bytes o u _ refl ∙ sym (not-not _))
+
+-- rows contradict each other where their outputs differ, and their states and columns meet
+module _ (n : ℕ) (r q : Row) where
+  pub same_outputs : same_output r.output q.output ≡ true → contradict n r q ≡ false
+  unfolding contradict
+  same_outputs e = rw e
+
+  pub other_outputs : same_output r.output q.output ≡ false →
+      contradict n r q ≡ (levels_meet r.state q.state && columns_meet n r q)
+  unfolding contradict
+  other_outputs e = rw e
 
 -- the rows that have been read
 pub rows_none : (t : Table) → CellsOfRows t []
@@ -50,6 +105,17 @@ rows_more t m s l h e w = record { row = go }
         (λ (k : i < m). rw (get_or-set_other s m i l c (λ q. omega arith), ← get_or-take m s i c k)
         (w.row i c (omega (arith, length-take-le m s (omega arith)))))
         (eq-or-lt_of_le {n = i} {m = m} (omega arith)))
+
+-- the row that was read last, and those before it
+module _ (t : Table) (m : ℕ) (s : List Cells) (l : Cells) (h : m < length s) (e : CellsOf t m l) where
+  pub count_before : length (take m (set s m l)) ≡ m
+  count_before = length-take-le m (set s m l) (omega (arith, length-set s m l))
+
+  pub rows_before : CellsOfRows t (take m s) → CellsOfRows t (take m (set s m l))
+  rows_before w = rw (take-set s m l) w
+
+  pub row_last : (d : Cells) → CellsOf t m (get_or (set s m l) m d)
+  row_last d = rw (get_or-set_same s m l d h) e
 
 pub none_of : (o : Option ℕ) (b : Bool) → is_some o ≡ not b → b ≡ is_none o
 none_of o true e = rw e

@@ -1,6 +1,5 @@
 -- What is kept of the rows that have been read.
-use Rattle.std.specs.Prelude.{ℕ, ◌<◌, ◌≡◌, List, length, get_or, Option, Some}
-use denote.Ref.{Bor}
+use Rattle.std.specs.Prelude.{ℕ, ◌<◌, ◌≡◌, List, length, get_or}
 use Rattle.base.specs.Limits.{input_limit}
 use Rattle.symbol.specs.declared.Symbol.TheVariants.{Held}
 use Rattle.symbol.specs.Masks.{offers}
@@ -12,10 +11,6 @@ pub record CellsOf (t : Table) (i : ℕ) (c : Cells) : Type 0 where
   pub columns : (k : ℕ) → k < input_limit → get_or c.columns k 0 ≡ offers (symbol_at (row_at t i) k)
   pub state : c.state ≡ offers (Held (row_at t i).state)
   pub output : c.output ≡ (row_at t i).output
-
--- the same, where there are any
-pub record ReadBefore (t : Table) (i : ℕ) (o : Option (Bor Cells)) : Type 0 where
-  pub cells : (c : Bor Cells) → o ≡ Some c → CellsOf t i c.now
 
 -- the cells of its first rows
 pub record CellsOfRows (t : Table) (s : List Cells) : Type 0 where

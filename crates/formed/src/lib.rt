@@ -1,51 +1,26 @@
 #![tactic(auto)]
 
-ghost use Rattle.std.specs.Prelude.{◌≡◌, ◌&&◌, ◌||◌, not, ◌<◌, ◌≤◌, ◌%◌, eqb, length};
-ghost use Rattle.base.specs.Limits.{row_limit};
+ghost use Rattle.std.specs.Prelude.{◌≡◌, ◌&&◌, ◌||◌, not, ℕ, ◌<◌, ◌≤◌, ◌%◌, eqb, bit_and, length};
+ghost use Rattle.base.specs.Limits.{input_limit, row_limit};
 ghost use Rattle.base.specs.Search.{found};
 ghost use Rattle.symbol.specs.declared.Symbol.TheVariants.{Held};
 ghost use Rattle.symbol.specs.Masks.{offers};
 ghost use Rattle.symbol.specs.Match.{is_edge};
-ghost use Rattle.table.specs.Table.{row_at, symbol_at};
+ghost use Rattle.table.specs.Table.{Table, row_at, symbol_at};
 ghost use Rattle.table.specs.Match.{edge_at};
 ghost use Rattle.table.specs.Area.{decode};
-ghost use Rattle.formed.specs.Cells.{CellsOf, ReadBefore, CellsOfRows};
-ghost use Rattle.formed.specs.Tests.{columns_meet, contradict, columns_valid, combinational, row_valid, rows_valid, row_agrees, rows_agree, within, head_valid, valid, well_formed};
+ghost use Rattle.formed.specs.Cells.{CellsOf, CellsOfRows};
+ghost use Rattle.formed.specs.Tests.{levels_meet, columns_meet, contradict, columns_valid, combinational, row_valid};
+ghost use Rattle.formed.specs.Tests.{rows_valid, row_agrees, rows_agree, within, head_valid, valid, well_formed};
 
 use std::array;
 use symbol::Output;
 use value::Ternary;
 
-// A row, read once: the sets of what its columns and its state may be offered, and its output.
-#[derive(Clone, Copy)]
-struct Cells {
-    columns: [u16; base::INPUTS],
-    state: u16,
-    output: Output,
-}
-
 // In a set bits 0 to 2 are the values, and the bits from this one on the changes.
 const CHANGES: u16 = 8;
 
 const EVERY_VALUE: u16 = 7;
-
-impl Cells {
-    const NONE: Cells = Cells {
-        columns: [0; base::INPUTS],
-        state: 0,
-        output: Output::Outx,
-    };
-
-    fn read(a: &[u8], i: usize) -> Cells
-        ensures { CellsOf (decode a.now) i result }
-    {
-        Cells {
-            columns: array::from_fn(|k| table::offers_in(a, i, k)),
-            state: table::state_offers(a, i),
-            output: table::output_in(a, i),
-        }
-    }
-}
 
 fn holds_edge(set: u16) -> bool
     ensures { result ≡ eqb (set % CHANGES) 0 }
@@ -60,109 +35,178 @@ fn may_stand(set: u16, here: bool) -> bool
     set != 0 && (!holds_edge(set) || here)
 }
 
-// A row of the table in an area; its cells where they have been read before.
+// Some value or change is in both sets.
+fn sets_meet(set: u16, other: u16) -> bool
+    ensures { result ≡ not (eqb (bit_and set other) 0) }
+{
+    set & other != 0
+}
+
+// A row, read once: the sets of what its columns and its state may be offered, and its output.
+#[derive(Clone, Copy)]
+struct Cells {
+    columns: [u16; base::INPUTS],
+    state: u16,
+    output: Output,
+}
+
+// Each n is the number of the table's inputs.
+impl Cells {
+    // No row yet; all bytes are zero, so that an array of these is cleared at once.
+    const NONE: Cells = Cells {
+        columns: [0; base::INPUTS],
+        state: 0,
+        output: Output::Out0,
+    };
+
+    // Past the table's inputs a column counts as ?, as the definition of a row has it.
+    fn read(a: &[u8], i: usize) -> Cells
+        ensures { CellsOf (decode a.now) i result }
+    {
+        let n = table::inputs(a);
+        Cells {
+            columns: array::from_fn(|k| {
+                if k < n {
+                    table::offers_in(a, i, k)
+                } else {
+                    EVERY_VALUE
+                }
+            }),
+            state: table::state_offers(a, i),
+            output: table::output_in(a, i),
+        }
+    }
+
+    // The first column with an edge.
+    fn edge(&self, n: usize) -> Option<usize>
+        requires { n ≤ input_limit }
+        ensures { (t : Table) (i : ℕ) → CellsOf t i self.now →
+            result ≡ found n (λ k. is_edge (symbol_at (row_at t i) k)) }
+    {
+        (0..n).find(|k| holds_edge(self.columns[*k]))
+    }
+
+    fn columns_valid(&self, n: usize) -> bool
+        requires { n ≤ input_limit }
+        ensures { (t : Table) (i : ℕ) → CellsOf t i self.now → result ≡ columns_valid n (row_at t i) }
+    {
+        let edge = self.edge(n);
+        (0..n).all(|k| may_stand(self.columns[k], Some(k) == edge))
+    }
+
+    fn is_all_levels(&self, n: usize) -> bool
+        requires { n ≤ input_limit }
+        ensures { (t : Table) (i : ℕ) → CellsOf t i self.now → result ≡ eqb (edge_at n (row_at t i)) n }
+    {
+        self.edge(n).is_none()
+    }
+
+    fn is_combinational(&self, n: usize) -> bool
+        requires { n ≤ input_limit }
+        ensures { (t : Table) (i : ℕ) → CellsOf t i self.now → result ≡ combinational n (row_at t i) }
+    {
+        self.is_all_levels(n) && self.state == EVERY_VALUE && self.output != Output::Old
+    }
+
+    fn is_valid(&self, n: usize, sequential: bool) -> bool
+        requires { n ≤ input_limit }
+        ensures { (t : Table) (i : ℕ) → CellsOf t i self.now → length (row_at t i).symbols ≡ n →
+            result ≡ row_valid n sequential (row_at t i) }
+    {
+        self.columns_valid(n) && (sequential || self.is_combinational(n))
+    }
+
+    // The states of the two rows meet, and so do their columns.
+    fn meets(&self, other: &Cells, n: usize) -> bool
+        requires { n ≤ input_limit }
+        ensures { (t : Table) (i j : ℕ) → CellsOf t i other.now → CellsOf t j self.now →
+            result ≡ (levels_meet (row_at t i).state (row_at t j).state && columns_meet n (row_at t i) (row_at t j)) }
+    {
+        sets_meet(other.state, self.state)
+            && (0..n).all(|k| sets_meet(other.columns[k], self.columns[k]))
+    }
+
+    fn contradicts(&self, other: &Cells, n: usize) -> bool
+        requires { n ≤ input_limit }
+        ensures { (t : Table) (i j : ℕ) → CellsOf t i other.now → CellsOf t j self.now →
+            result ≡ contradict n (row_at t i) (row_at t j) }
+    {
+        other.output != self.output && self.meets(other, n)
+    }
+
+    // The row contradicts none of those before it, which have been read.
+    fn agrees(&self, read: &[Cells], n: usize) -> bool
+        requires { n ≤ input_limit }
+        ensures { (t : Table) → t.inputs ≡ n → CellsOfRows t read.now → CellsOf t (length read.now) self.now →
+            result ≡ row_agrees t (length read.now) }
+    {
+        for earlier in read {
+            if self.contradicts(earlier, n) {
+                return false;
+            }
+        }
+        true
+    }
+}
+
+// A row of the table in an area.
 #[derive(Clone, Copy)]
 struct Row<'a> {
     area: &'a [u8],
     index: usize,
-    cells: Option<&'a Cells>,
-    ghost as_read: { ReadBefore (decode area.now) index cells },
 }
 
-impl<'a> Row<'a> {
-    fn new(area: &'a [u8], index: usize, cells: Option<&'a Cells>) -> Row<'a>
-        requires { ReadBefore (decode area.now) index cells }
-        ensures { (result.area.now ≡ area.now) × (result.index ≡ index) }
-    {
-        Row { area, index, cells }
-    }
-
+impl Row<'_> {
     // What column k may be offered, as a set.
     fn column(&self, k: usize) -> u16
         ensures { result ≡ offers (symbol_at (row_at (decode self.now.area.now) self.now.index) k) }
     {
-        match self.cells {
-            Some(cells) if k < base::INPUTS => cells.columns[k],
-            _ => table::offers_in(self.area, self.index, k),
-        }
+        table::offers_in(self.area, self.index, k)
     }
 
     fn state(&self) -> u16
         ensures { result ≡ offers (Held (row_at (decode self.now.area.now) self.now.index).state) }
     {
-        match self.cells {
-            Some(cells) => cells.state,
-            None => table::state_offers(self.area, self.index),
-        }
+        table::state_offers(self.area, self.index)
     }
 
     fn output(&self) -> Output
         ensures { result ≡ (row_at (decode self.now.area.now) self.now.index).output }
     {
-        match self.cells {
-            Some(cells) => cells.output,
-            None => table::output_in(self.area, self.index),
-        }
+        table::output_in(self.area, self.index)
     }
 
-    // The first column with an edge.
-    fn edge(&self) -> Option<usize>
-        ensures { let t = decode self.now.area.now in result ≡ found t.inputs (λ k. is_edge (symbol_at (row_at t self.now.index) k)) }
+    // The states of the two rows meet, and so do their columns; a caller reads this row's state once for many others.
+    fn meets(&self, state: u16, other: &Row) -> bool
+        requires same { other.now.area.now ≡ self.now.area.now }
+        requires own { state ≡ offers (Held (row_at (decode self.now.area.now) self.now.index).state) }
+        ensures { let t = decode self.now.area.now in let r = row_at t other.now.index in
+            let q = row_at t self.now.index in result ≡ (levels_meet r.state q.state && columns_meet t.inputs r q) }
     {
-        (0..table::inputs(self.area)).find(|k| holds_edge(self.column(*k)))
+        sets_meet(other.state(), state)
+            && (0..table::inputs(self.area)).all(|k| sets_meet(other.column(k), self.column(k)))
     }
 
-    fn columns_valid(&self) -> bool
-        ensures { let t = decode self.now.area.now in result ≡ columns_valid t.inputs (row_at t self.now.index) }
-    {
-        let edge = self.edge();
-        (0..table::inputs(self.area)).all(|k| may_stand(self.column(k), Some(k) == edge))
-    }
-
-    fn is_all_levels(&self) -> bool
-        ensures { let t = decode self.now.area.now in result ≡ eqb (edge_at t.inputs (row_at t self.now.index)) t.inputs }
-    {
-        self.edge().is_none()
-    }
-
-    #[tactic(auto, using(offers::proofs::Offers::any_offers), unfolding(crate::specs::Tests::combinational, stored::specs::Stored::output_byte))]
-    fn is_combinational(&self) -> bool
-        ensures { let t = decode self.now.area.now in result ≡ combinational t.inputs (row_at t self.now.index) }
-    {
-        self.is_all_levels() && self.state() == EVERY_VALUE && self.output() != Output::Old
-    }
-
-    #[tactic(auto, using(table::proofs::Encoding::decode_columns), unfolding(crate::specs::Tests::row_valid))]
-    fn is_valid(&self) -> bool
-        requires { self.now.index < length (decode self.now.area.now).rows }
-        ensures { let t = decode self.now.area.now in result ≡ row_valid t.inputs t.sequential (row_at t self.now.index) }
-    {
-        self.columns_valid() && (table::sequential(self.area) || self.is_combinational())
-    }
-
-    fn meets(&self, other: &Row) -> bool
-        requires { other.now.area.now ≡ self.now.area.now }
-        ensures { let t = decode self.now.area.now in result ≡ columns_meet t.inputs (row_at t other.now.index) (row_at t self.now.index) }
-    {
-        (0..table::inputs(self.area)).all(|k| other.column(k) & self.column(k) != 0)
-    }
-
-    #[tactic(auto, using(symbol::proofs::Offers::meet_offers), unfolding(crate::specs::Tests::contradict, crate::specs::Tests::levels_meet, crate::specs::Tests::same_output, stored::specs::Stored::output_byte))]
     fn contradicts(&self, other: &Row) -> bool
         requires { other.now.area.now ≡ self.now.area.now }
-        ensures { let t = decode self.now.area.now in result ≡ contradict t.inputs (row_at t other.now.index) (row_at t self.now.index) }
+        ensures { let t = decode self.now.area.now in
+            result ≡ contradict t.inputs (row_at t other.now.index) (row_at t self.now.index) }
     {
-        other.output() != self.output() && other.state() & self.state() != 0 && self.meets(other)
+        other.output() != self.output() && self.meets(self.state(), other)
     }
 
-    // The row contradicts none before it, of which the first ones may have been read.
-    fn agrees(&self, read: &[Cells]) -> bool
-        requires { CellsOfRows (decode self.now.area.now) read.now }
+    // The row contradicts none before it.
+    fn agrees(&self) -> bool
         ensures { result ≡ row_agrees (decode self.now.area.now) self.now.index }
     {
+        let output = self.output();
+        let state = self.state();
         for i in 0..self.index {
-            let earlier = Row::new(self.area, i, read.get(i));
-            if self.contradicts(&earlier) {
+            let earlier = Row {
+                area: self.area,
+                index: i,
+            };
+            if earlier.output() != output && self.meets(state, &earlier) {
                 return false;
             }
         }
@@ -174,27 +218,30 @@ impl<'a> Row<'a> {
 pub fn contradicts(a: &[u8], i: usize, j: usize) -> bool
     ensures { let t = decode a.now in result ≡ contradict t.inputs (row_at t i) (row_at t j) }
 {
-    Row::new(a, j, None).contradicts(&Row::new(a, i, None))
+    Row { area: a, index: j }.contradicts(&Row { area: a, index: i })
 }
 
 // Row j contradicts none before it.
 pub fn row_agrees(a: &[u8], j: usize) -> bool
     ensures { result ≡ row_agrees (decode a.now) j }
 {
-    Row::new(a, j, None).agrees(&[])
+    Row { area: a, index: j }.agrees()
 }
 
 // Each row is valid, and contradicts none before it.
 fn rows_fit(a: &[u8]) -> bool
-    requires { length (decode a.now).rows ≤ row_limit }
+    requires inputs { (decode a.now).inputs ≤ input_limit }
+    requires rows { length (decode a.now).rows ≤ row_limit }
     ensures { let t = decode a.now in result ≡ (rows_valid t && rows_agree t) }
 {
     let m = table::rows(a);
+    let n = table::inputs(a);
+    let sequential = table::sequential(a);
     let mut read = [Cells::NONE; base::ROWS];
     for j in 0..m {
         read[j] = Cells::read(a, j);
-        let row = Row::new(a, j, read.get(j));
-        if !row.is_valid() || !row.agrees(&read[..j]) {
+        let row = read[j];
+        if !row.is_valid(n, sequential) || !row.agrees(&read[..j], n) {
             return false;
         }
     }
@@ -218,7 +265,7 @@ fn head_valid(a: &[u8]) -> bool
         && (table::sequential(a) || table::start(a) == Ternary::X)
 }
 
-#[tactic(auto, using(crate::proofs::Exact::head_rows), unfolding(crate::specs::Tests::valid))]
+#[tactic(auto, using(crate::proofs::Exact::head_inputs, crate::proofs::Exact::head_rows), unfolding(crate::specs::Tests::valid))]
 fn is_valid(a: &[u8]) -> bool
     ensures { result ≡ valid (decode a.now) }
 {

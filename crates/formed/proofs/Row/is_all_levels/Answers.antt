@@ -1,6 +1,0 @@
-use mathlib.Core.Path.{◌∙◌}
-use Rattle.formed.proofs.Sets.{none_of, no_edge}
-use Rattle.formed.proofs.Row.is_all_levels.Goals as goal
-
-pub returns : goal.returns
-returns c = none_of _ _ c.is_none.ensures ∙ rw c.edge.ensures (no_edge _ _)
