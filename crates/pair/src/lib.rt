@@ -1,6 +1,7 @@
 #![tactic(auto)]
 
-ghost use Rattle.std.specs.Prelude.{◌≡◌, ℕ, suc, ◌+◌, ◌-◌, ◌/◌, ◌%◌, ◌^◌, ◌<◌, ◌≤◌, IfSome};
+ghost use Rattle.std.specs.Prelude.{◌≡◌, ◌≢◌, true, ℕ, suc, ◌+◌, ◌-◌, ◌*◌, ◌/◌, ◌%◌, ◌^◌, ◌<◌, ◌≤◌};
+ghost use Rattle.std.specs.Prelude.{eqb, get_or, IfSome};
 ghost use Rattle.base.specs.Limits.{input_limit};
 ghost use Rattle.base.specs.Search.{first};
 ghost use Rattle.value.specs.Value.{rank_of, value_of};
@@ -8,7 +9,7 @@ ghost use Rattle.table.specs.Table.{Table};
 ghost use Rattle.orders.specs.Verdict.{candidates};
 ghost use Rattle.memo.specs.Memo.{MemoOf};
 ghost use Rattle.memo.specs.Rows.{lowest, out_by, entry_of};
-ghost use Rattle.memo.specs.Pair.{others_of, first_then};
+ghost use Rattle.memo.specs.Pair.{others_of, first_then, second_then};
 ghost use Rattle.pair.specs.Search.{found, differs, differs_by, first_at, output_at};
 
 use memo::Memo;
@@ -34,6 +35,18 @@ impl Case {
             first_now: c / 9 % 3,
             second_now: c / 3 % 3,
             old: c % 3,
+        }
+    }
+
+    // The case of these value numbers.
+    fn to(first_now: usize, second_now: usize, old: usize) -> Case
+        requires { (first_now < 3) × (second_now < 3) × (old < 3) }
+        ensures { (result.first_now ≡ first_now) × (result.second_now ≡ second_now) × (result.old ≡ old) }
+    {
+        Case {
+            first_now,
+            second_now,
+            old,
         }
     }
 
@@ -147,13 +160,24 @@ fn lowest_row(memo: &Memo, set: u64) -> Option<usize>
     (row < memo.rows).then_some(row)
 }
 
+// What a row answers for an old output.
+fn output_of(memo: &Memo, row: usize, old: usize) -> usize
+    requires { (row < memo.now.rows) × (old < 3) }
+    ensures { ((t : Table) → MemoOf t memo.now → result ≡ get_or memo.now.outputs (row * 3 + old) 0) × (result < 3) }
+{
+    usize::from(memo.outputs[row * 3 + old]).min(2)
+}
+
 // What the rows answer: the lowest level row, else the lowest edge row, else x.
 fn out_by(memo: &Memo, level: u64, edge: u64, old: usize) -> usize
     requires { old < 3 }
     ensures { ((t : Table) → MemoOf t memo.now → result ≡ rank_of (out_by t level edge (value_of old))) × (result < 3) }
 {
-    match lowest_row(memo, level).or(lowest_row(memo, edge)) {
-        Some(row) => usize::from(memo.outputs[row * 3 + old]).min(2),
+    if let Some(row) = lowest_row(memo, level) {
+        return output_of(memo, row, old);
+    }
+    match lowest_row(memo, edge) {
+        Some(row) => output_of(memo, row, old),
         None => 2,
     }
 }
@@ -200,6 +224,53 @@ fn first_then(memo: &Memo, start: Start, case: Case) -> usize
     )
 }
 
+// The two orders agree in a case.
+fn agree(memo: &Memo, start: Start, case: Case) -> bool
+    ensures { (t : Table) → MemoOf t memo.now → result ≡ eqb
+        (first_then t memo.now.cells start.first start.second start.rest start.first_was start.second_was
+        case.first_now case.second_now case.old)
+        (second_then t memo.now.cells start.first start.second start.rest start.first_was start.second_was
+        case.first_now case.second_now case.old) }
+{
+    first_then(memo, start, case) == first_then(memo, start.turned(), case.turned())
+}
+
+// They agree for every old output, where the columns go to these values.
+fn agree_for_each_old(memo: &Memo, start: Start, first_now: usize, second_now: usize) -> bool
+    requires { (first_now < 3) × (second_now < 3) }
+    ensures { (t : Table) → MemoOf t memo.now → result ≡ true → (o : ℕ) → o < 3 →
+        first_then t memo.now.cells start.first start.second start.rest start.first_was start.second_was
+        first_now second_now o
+        ≡ second_then t memo.now.cells start.first start.second start.rest start.first_was start.second_was
+        first_now second_now o }
+{
+    agree(memo, start, Case::to(first_now, second_now, 0))
+        & (agree(memo, start, Case::to(first_now, second_now, 1))
+            & agree(memo, start, Case::to(first_now, second_now, 2)))
+}
+
+// And for both values that the second column can change to.
+fn agree_for_each_second(memo: &Memo, start: Start, first_now: usize) -> bool
+    requires { first_now < 3 }
+    ensures { (t : Table) → MemoOf t memo.now →
+        result ≡ true → (y o : ℕ) → y < 3 → o < 3 → y ≢ start.second_was →
+        first_then t memo.now.cells start.first start.second start.rest start.first_was start.second_was first_now y o
+        ≡ second_then t memo.now.cells start.first start.second start.rest start.first_was start.second_was
+        first_now y o }
+{
+    agree_for_each_old(memo, start, first_now, (start.second_was + 1) % 3)
+        & agree_for_each_old(memo, start, first_now, (start.second_was + 2) % 3)
+}
+
+// All 27 cases agree. The twelve in which both columns change are asked, and each of them, since a branch costs more.
+fn all_agree(memo: &Memo, start: Start) -> bool
+    ensures { (t : Table) → MemoOf t memo.now → result ≡ true → 27 ≡ first 27
+        (differs_by t memo.now.cells start.first start.second start.rest start.first_was start.second_was) }
+{
+    agree_for_each_second(memo, start, (start.first_was + 1) % 3)
+        & agree_for_each_second(memo, start, (start.first_was + 2) % 3)
+}
+
 // The two orders differ; where a column stays they never do.
 fn differ(memo: &Memo, start: Start, case: Case) -> bool
     ensures { (t : Table) → MemoOf t memo.now →
@@ -210,7 +281,7 @@ fn differ(memo: &Memo, start: Start, case: Case) -> bool
     if stays {
         return false;
     }
-    first_then(memo, start, case) != first_then(memo, start.turned(), case.turned())
+    !agree(memo, start, case)
 }
 
 // The first of the 27 cases in which the two orders differ.
@@ -219,6 +290,9 @@ fn first_case(memo: &Memo, start: Start) -> Option<usize>
         result ≡ found 27 (first 27 (differs_by t memo.now.cells start.first start.second start.rest start.first_was start.second_was)) }
     ensures low { IfSome result (λ c. c < 27) }
 {
+    if all_agree(memo, start) {
+        return None;
+    }
     for c in 0..27 {
         if differ(memo, start, Case::of(c)) {
             return Some(c);

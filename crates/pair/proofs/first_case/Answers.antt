@@ -4,6 +4,9 @@ use Rattle.pair.proofs.Cases.{case_is}
 use Rattle.pair.proofs.Options.{found_below, none_below}
 use Rattle.pair.proofs.first_case.Goals as goal
 
+pub returns-then-all_agree-clause-first : goal.returns-then-all_agree-clause-first
+returns-then-all_agree-clause-first c = λ t M. rw (← c.all_agree.ensures t M c.if-all_agree.true)
+
 pub loop-c-init : goal.loop-c-init
 loop-c-init c = λ t M. below_none _
 
