@@ -2,11 +2,12 @@
 use mathlib.Core.Path.{◌≡◌, sym, ap, ◌∙◌}
 use mathlib.Core.Bool.{Bool, true, false, cond}
 use mathlib.Core.List.{List, [], ◌∷◌, ◌++◌, map, append_assoc}
-use Prim.Native.Nat.{ℕ, suc, ◌+◌, ◌*◌, ◌/◌, ◌≤◌}
+use Prim.Native.Nat.{ℕ, suc, ◌+◌, ◌*◌, ◌/◌, ◌≤◌, ◌<◌}
 use native.Mathlib.Omega.{arith}
-use lib.ListN.{length, length-append, length-map}
+use lib.ListN.{length, get_or, length-append, length-map}
 use lib.Dec.{ltb}
 use Rattle.std.specs.Prelude.{Some}
+use Rattle.std.proofs.lemmas.List.{get_or-map}
 use Rattle.base.specs.Listed.{listed}
 use Rattle.base.proofs.Listed.{listed_length}
 use Rattle.verdict.specs.declared.Witness.{Witness}
@@ -33,6 +34,25 @@ now_long n w = sym (length-map (now n w) byte_of ∙ now_length n w)
 
 pub order_long : (n : ℕ) (f : ℕ → ℕ) → n ≡ length (map digit_of (listed f n))
 order_long n f = sym (length-map (listed f n) digit_of ∙ listed_length f n)
+
+-- ---- where the lengths of all fields are listed
+
+pub witness_lengths : (n : ℕ) (w : Witness) →
+    1 ∷ n ∷ n ∷ 1 ∷ n ∷ 1 ∷ n ∷ 1 ∷ [] ≡ map length (witness_fields (drafted n w))
+witness_lengths n w =
+    rw (
+      ← previous_long n w,
+      ← now_long n w,
+      ← order_long n (order_at w.first w.second w.first w.second),
+      ← order_long n (order_at w.first w.second w.second w.first),
+    )
+
+module _ (fs : List (List ℕ)) (ls : List ℕ) (e : ls ≡ map length fs) where
+  pub as_many : length ls ≡ length fs
+  as_many = ap length e ∙ length-map fs length
+
+  pub length_listed : (m : ℕ) → m < length ls → get_or ls m 0 ≡ length (get_or fs m [])
+  length_listed m h = ap (λ l. get_or l m 0) e ∙ get_or-map length fs m [] 0 (omega (arith, h, as_many))
 
 -- ---- the length of a line
 

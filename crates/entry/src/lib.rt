@@ -130,22 +130,8 @@ enum Field<'a> {
 }
 
 impl Field<'_> {
-    #[tactic(auto, using(crate::proofs::Fields::previous_long, crate::proofs::Fields::now_long, crate::proofs::Fields::order_long))]
-    fn length(self) -> usize
-        ensures { result ≡ length (said self.entry) }
-    {
-        match self {
-            Field::Name(name) => name.len(),
-            Field::Decimal(x) => decimal_length(x),
-            Field::Lone(_) => 1,
-            Field::Previous(n, _) => n,
-            Field::Now(n, _) => n,
-            Field::FirstOrder(n, _) => n,
-            Field::SecondOrder(n, _) => n,
-            Field::Nothing => 0,
-        }
-    }
-
+    // Inlined, so that a field is never stored before its byte is read.
+    #[inline(always)]
     fn byte(self, k: usize) -> u8
         ensures { result ≡ get_or (said self.entry) k 0 }
     {
@@ -189,6 +175,8 @@ fn finding_field<'a>(n: usize, finding: Finding, m: usize) -> Field<'a>
     }
 }
 
+// Inlined, for the same reason as `byte`.
+#[inline(always)]
 fn field_at<'a>(verdict: Verdict<'a>, m: usize) -> Field<'a>
     ensures { said result ≡ get_or (fields (draft (handed verdict.entry))) m [] }
 {
@@ -197,15 +185,6 @@ fn field_at<'a>(verdict: Verdict<'a>, m: usize) -> Field<'a>
         1 => Field::Decimal(verdict.inputs),
         2 => Field::Decimal(verdict.rows),
         _ => finding_field(verdict.inputs, verdict.finding, m - 3),
-    }
-}
-
-fn field_count(verdict: Verdict) -> usize
-    ensures { result ≡ length (fields (draft (handed verdict.entry))) }
-{
-    match verdict.finding {
-        Finding::Independent => 4,
-        Finding::Dependent(_) => 11,
     }
 }
 
@@ -227,16 +206,18 @@ fn trailer_byte(s: usize, k: usize) -> u8
 
 // ---- the line
 
-// Byte k of the line that starts at place s, its LF with it.
-pub fn line_byte(verdict: Verdict, s: usize, k: usize) -> u8
+// Byte k of the line that starts at place s, its LF with it, where `lengths` says how long each field is.
+// Inlined, so that each finding has a loop of its own, over a number of fields that is known there.
+#[inline(always)]
+fn byte_among(verdict: Verdict, lengths: &[usize], s: usize, k: usize) -> u8
+    requires { lengths.now ≡ map length (fields (draft (handed verdict))) }
     ensures { result ≡ get_or (entry s (draft (handed verdict.entry)) ++ (LF ∷ [])) k 0 }
 {
     let mut i = k;
-    for m in 0..field_count(verdict) {
-        let field = field_at(verdict, m);
-        let length = field.length();
+    for m in 0..lengths.len() {
+        let length = lengths[m];
         if i < length {
-            return field.byte(i);
+            return field_at(verdict, m).byte(i);
         }
         if i == length {
             return b' ';
@@ -244,6 +225,25 @@ pub fn line_byte(verdict: Verdict, s: usize, k: usize) -> u8
         i = i - length - 1;
     }
     trailer_byte(s, i)
+}
+
+// Byte k of the line that starts at place s, its LF with it.
+pub fn line_byte(verdict: Verdict, s: usize, k: usize) -> u8
+    ensures { result ≡ get_or (entry s (draft (handed verdict.entry)) ++ (LF ∷ [])) k 0 }
+{
+    let n = verdict.inputs;
+    let name = verdict.name.len();
+    let inputs = decimal_length(n);
+    let rows = decimal_length(verdict.rows);
+    match verdict.finding {
+        Finding::Independent => byte_among(verdict, &[name, inputs, rows, 1], s, k),
+        Finding::Dependent(_) => byte_among(
+            verdict,
+            &[name, inputs, rows, 1, n, n, 1, n, 1, n, 1],
+            s,
+            k,
+        ),
+    }
 }
 
 // The length of a verdict's line, its LF with it, where the verdict fits.

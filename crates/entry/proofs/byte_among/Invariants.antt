@@ -6,7 +6,7 @@ use Rattle.files.specs.Parts.{join}
 use Rattle.handed.specs.Handed.{handed}
 use Rattle.entry.specs.Entry.{space, fields, trailer, entry}
 use Rattle.entry.specs.Draft.{draft}
-use Rattle.entry.proofs.line_byte.Given as goal
+use Rattle.entry.proofs.byte_among.Given as goal
 
 -- byte k of the line is byte i of what stands from field m on
 abbrev pub invariant-loop-m : goal.invariant-loop-m
