@@ -6,6 +6,7 @@ mod places;
 use disk::Cut;
 use refusal::Refusal;
 use run::{Run, Stopped};
+use std::fs::File;
 use std::io::{Error, Seek, SeekFrom};
 use std::rt::Env;
 
@@ -46,17 +47,22 @@ impl From<Stopped> for Stop {
     }
 }
 
-// What a library's text needs in its book is kept or stored; how many entries stand then.
-fn keep_text(rt: &HostRuntime, text: &[u8], path: &[u8]) -> Result<usize, Stop> {
+// What a library's text needs in its book is kept or stored; how many entries stand then. The caller closes its file.
+fn keep_text(
+    rt: &HostRuntime,
+    text: &[u8],
+    path: &[u8],
+    book_file: &mut Option<File>,
+) -> Result<usize, Stop> {
     let mut area = [0u8; table::AREA];
     // The book is opened, or made, only where the whole library can be read.
     let total = keeping::count(text, &mut area)?;
-    let mut file = places::open_or_create(rt, path)?;
+    let file = book_file.insert(places::open_or_create(rt, path)?);
     // What has no places, as a pipe, would be waited for.
     file.seek(SeekFrom::Start(0))?;
     // One byte more than a book may have is loaded, so that a longer file is refused and not cut short.
     let mut book = [0u8; base::BOOK + 1];
-    let stated = disk::load_from(&mut file, &mut book)?;
+    let stated = disk::load_from(file, &mut book)?;
     let found = book::open_book(&book, stated)?;
     if total < found.entries {
         return Err(Stop::Surplus(found.entries, total));
@@ -65,7 +71,7 @@ fn keep_text(rt: &HostRuntime, text: &[u8], path: &[u8]) -> Result<usize, Stop> 
         places::flush_folder(rt, path)?;
     }
     let run = Run {
-        file: &file,
+        file,
         path,
         text,
         good: found.good,
@@ -73,7 +79,7 @@ fn keep_text(rt: &HostRuntime, text: &[u8], path: &[u8]) -> Result<usize, Stop> 
     };
     let length = run::go_through(rt, run, &mut area, &mut book)?;
     if length < stated {
-        places::take_away(&file, length)?;
+        places::take_away(file, length)?;
     }
     Ok(total)
 }
@@ -84,7 +90,9 @@ fn keep(rt: &HostRuntime, library: &[u8], path: &[u8]) {
     let Ok(n) = disk::load(rt, library, &mut text) else {
         return;
     };
-    match keep_text(rt, &text[..n], path) {
+    // The book's file stays open until the last line is said.
+    let mut book_file = None;
+    match keep_text(rt, &text[..n], path, &mut book_file) {
         Ok(total) => say::all_stand(rt, total),
         Err(Stop::Failed(error)) => disk::fail(rt, path, error),
         Err(Stop::Refused(refusal)) => say::refusal(rt, refusal),

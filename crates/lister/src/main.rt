@@ -21,24 +21,23 @@ fn write_out(to: &impl Print, lines: &mut ArrayVec<u8, GATHERED>) {
     lines.clear();
 }
 
-fn gather(to: &impl Print, lines: &mut ArrayVec<u8, GATHERED>, words: &[u8]) {
-    if lines.try_extend_from_slice(words).is_err() {
+// What is gathered is written first where the line may not fit, so that whole lines are written.
+fn gather(to: &impl Print, lines: &mut ArrayVec<u8, GATHERED>, line: &[u8]) {
+    if lines.remaining_capacity() < LINE {
         write_out(to, lines);
-        let _ = lines.try_extend_from_slice(words);
     }
+    let _ = lines.try_extend_from_slice(line);
+    let _ = lines.try_push(b'\n');
 }
 
 // The entry is made as the first of a book of its own.
 fn add_line(to: &impl Print, lines: &mut ArrayVec<u8, GATHERED>, verdict: Verdict) {
     let mut line = [0u8; LINE];
     match book::append(&mut line, 0, verdict) {
-        Ok(end) => {
-            gather(to, lines, text::part(&line, 0, end.saturating_sub(TRAILER)));
-            gather(to, lines, b"\n");
-        }
+        Ok(end) => gather(to, lines, text::part(&line, 0, end.saturating_sub(TRAILER))),
         Err(refusal) => {
             write_out(to, lines);
-            let _ = println!(to; "{refusal}");
+            say::refusal(to, refusal);
         }
     }
 }
@@ -63,7 +62,7 @@ fn list_input(rt: &HostRuntime, input: &mut [u8]) {
     let listed = list(rt, &mut lines, &input[..n]);
     write_out(rt, &mut lines);
     if let Err(refusal) = listed {
-        let _ = println!(rt; "{refusal}");
+        say::refusal(rt, refusal);
     }
 }
 

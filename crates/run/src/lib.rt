@@ -70,7 +70,7 @@ fn go_on(
 {
     match keeping::settle(run.text, turn.start, area, book, turn.at, run.good) {
         Ok(Settled::Kept(next, end)) => {
-            say::entry_done(rt, "kept", turn.entry, run.total, table::name_in(area));
+            say::entry_done(rt, b"kept ", turn.entry, run.total, table::name_in(area));
             Ok(Some(Turn {
                 start: next,
                 at: end,
@@ -84,7 +84,7 @@ fn go_on(
             let stored = store_entry(run.file, book, turn.at, end);
             match stored {
                 Ok(last) => {
-                    say::entry_done(rt, "wrote", turn.entry, run.total, table::name_in(area));
+                    say::entry_done(rt, b"wrote ", turn.entry, run.total, table::name_in(area));
                     Ok(Some(Turn {
                         start: next,
                         at: last,

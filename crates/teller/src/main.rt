@@ -1,6 +1,8 @@
 #![tactic(auto)]
 
 // teller BOOK [NAME]: what a book holds, or the refusal of a damaged one.
+use say::Words;
+use std::fmt::Write;
 use std::rt::Env;
 
 // The longest path and name that are taken.
@@ -16,9 +18,9 @@ fn is_wanted(line: &[u8], name: &[u8]) -> bool {
 
 // What standard output does not take is not told.
 fn print_line(to: &impl Print, line: &[u8], k: usize) {
-    let _ = print!(to; "{k} ");
+    let _ = write!(Words(to), "{k} ");
     let _ = to.write_all(&line[..line.len().saturating_sub(TRAILER)]);
-    let _ = println!(to; "");
+    let _ = to.write_all(b"\n");
 }
 
 fn print_entries(to: &impl Print, lines: &[u8], name: &[u8]) {
@@ -32,15 +34,16 @@ fn print_entries(to: &impl Print, lines: &[u8], name: &[u8]) {
 fn tell_book(to: &impl Print, book: &[u8], name: &[u8]) {
     match book::open_book(book, book.len()) {
         Ok(found) => {
-            let _ = println!(to;
-                "{} entries, good length {}, torn bytes {}",
-                found.entries, found.good, found.torn
+            let _ = write!(
+                Words(to),
+                "{} entries, good length {}, torn bytes {}\n",
+                found.entries,
+                found.good,
+                found.torn
             );
             print_entries(to, text::part(book, 0, found.good), name);
         }
-        Err(refusal) => {
-            let _ = println!(to; "{refusal}");
-        }
+        Err(refusal) => say::refusal(to, refusal),
     }
 }
 

@@ -1,4 +1,4 @@
-use Rattle.std.proofs.Common.{length, ◌-◌, ◌≡◌, ◌≤◌}
+use Rattle.std.proofs.Common.{length, ◌-◌, ◌≤◌}
 use Rattle.lister.proofs.list.Given as goal
 
 abbrev pub invariant-loop-finding : goal.invariant-loop-finding
