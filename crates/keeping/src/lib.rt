@@ -25,11 +25,17 @@ pub fn count(text: &[u8], area: &mut [u8]) -> Result<usize, Refusal>
 {
     let mut at: usize = 0;
     let mut n: usize = 0;
-    while let Some(next) = reading::read(text, at, area)? {
-        at = next;
-        n += 1;
+    loop {
+        match reading::read(text, at, area) {
+            Ok(Some(next)) => {
+                at = next;
+                n += 1;
+            }
+            Ok(None) => return Ok(n),
+            // Stays: an arm in place of `?`, so that a wrong edit can change what a refusal answers and nothing else.
+            Err(refusal) => return Err(refusal),
+        }
     }
-    Ok(n)
 }
 
 // The verdict on the table in the area.

@@ -46,8 +46,10 @@ fn fill_row(row: &mut [u8], symbols: &[Symbol], state: Level, output: Output)
 {
     row.fill(0);
     for (k, s) in symbols.iter().enumerate() {
-        row[2 * k] = stored::symbol_byte(*s);
-        row[2 * k + 1] = stored::second_byte(*s);
+        let first = stored::symbol_byte(*s);
+        let second = stored::second_byte(*s);
+        row[2 * k] = first;
+        row[2 * k + 1] = second;
     }
     row[table::STATE_AT] = stored::level_byte(state);
     row[table::OUTPUT_AT] = stored::output_byte(output);

@@ -7,7 +7,7 @@ pub loop-i-init : goal.loop-i-init
 loop-i-init c = λ t M k h. absurd (omega arith)
 
 pub loop-j-init : goal.loop-j-init
-loop-j-init c = λ t M k h. low_pairs t _ (c.loop-i.invariant t M) k h (omega arith)
+loop-j-init c = λ t M k h. low_pairs t c.loop-i.i (c.loop-i.invariant t M) k (omega arith) (omega arith)
 
 pub returns-in-Some : goal.returns-in-Some
 returns-in-Some c = λ t M. found_pair t _ _ _ _ (omega arith) (omega arith) (c.loop-j.invariant t M) (sym c.in-Some.is ∙ c.pair_first.ensures t M)

@@ -14,7 +14,7 @@ pub loop-k-preserved : goal.loop-k-preserved
 loop-k-preserved c =
     let same = get_or_default c.args.symbols.now c.loop-k.k _ any_symbol (omega arith) in
     columns_more _ _ _ _ _ (omega arith) (omega (arith, c.requires.few))
-    (c.symbol_byte.ensures ∙ ap symbol_byte same) (c.second_byte.ensures ∙ ap second_byte same) c.loop-k.invariant
+    (c.symbol_byte-first.ensures ∙ ap symbol_byte same) (c.second_byte-second.ensures ∙ ap second_byte same) c.loop-k.invariant
 
 pub returns : goal.returns
 returns c =
