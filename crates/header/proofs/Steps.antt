@@ -35,7 +35,7 @@ module _ {A : Type 0} (q : List ℕ) (fresh : Bool) (m : Reader A) where
       go (refused c p) = refl
 
 module _ (m : ℕ) (q : List ℕ) (left : List (List ℕ)) (reg : Bool) (k : ℕ) (s : List ℕ) (p : ℕ) (r : List ℕ) (e : skip k s ≡ got tt p r) where
-  turn_fault : (c x : ℕ) → word (λ w. member w declaring) p r ≡ refused c x → declarations (suc m) q left reg k s ≡ refused c x
+  pub turn_fault : (c x : ℕ) → word (λ w. member w declaring) p r ≡ refused c x → declarations (suc m) q left reg k s ≡ refused c x
   unfolding declarations ◌>>=◌
   turn_fault c x f = rw (e, f)
 
@@ -43,23 +43,23 @@ module _ (m : ℕ) (q : List ℕ) (left : List (List ℕ)) (reg : Bool) (k : ℕ
     abbrev Word : Declaring → Type 0
     Word d = word (λ w. member w declaring) p r ≡ got (declaring_word d) j z
 
-    turn_output : Word Output → declarations (suc m) q left reg k s ≡ bind (declare q (member q left) j z) (λ v. declarations m q (remove q left) reg)
+    pub turn_output : Word Output → declarations (suc m) q left reg k s ≡ bind (declare q (member q left) j z) (λ v. declarations m q (remove q left) reg)
     unfolding declarations ◌>>=◌ if
     turn_output f = rw (e, f) (declare_then q (member q left) (declarations m q (remove q left) reg) j z)
 
-    turn_reg : Word Reg → declarations (suc m) q left reg k s ≡ bind (declare q (not reg) j z) (λ v. declarations m q left true)
+    pub turn_reg : Word Reg → declarations (suc m) q left reg k s ≡ bind (declare q (not reg) j z) (λ v. declarations m q left true)
     unfolding declarations ◌>>=◌ if
     turn_reg f = rw (e, f) (declare_then q (not reg) (declarations m q left true) j z)
 
-    turn_input : Word Input → declarations (suc m) q left reg k s ≡ bind (input_list list_room q left j z) (λ l. declarations m q l reg)
+    pub turn_input : Word Input → declarations (suc m) q left reg k s ≡ bind (input_list list_room q left j z) (λ l. declarations m q l reg)
     unfolding declarations ◌>>=◌ if
     turn_input f = rw (e, f)
 
-    turn_initial : Word Initial → declarations (suc m) q left reg k s ≡ initial q left reg p j z
+    pub turn_initial : Word Initial → declarations (suc m) q left reg k s ≡ initial q left reg p j z
     unfolding declarations ◌>>=◌ if
     turn_initial f = rw (e, f)
 
-    turn_table : Word Table → declarations (suc m) q left reg k s ≡ bind (check (none_left left) 5 p j z) (λ u. give (record { sequential = reg; start = Vx }))
+    pub turn_table : Word Table → declarations (suc m) q left reg k s ≡ bind (check (none_left left) 5 p j z) (λ u. give (record { sequential = reg; start = Vx }))
     unfolding declarations ◌>>=◌ if
     turn_table f = rw (e, f)
 
