@@ -15,7 +15,7 @@ use Rattle.std.specs.Prelude.{Some, None}
 use Rattle.std.proofs.lemmas.List.{map-append}
 use Rattle.base.specs.Limits.{input_limit}
 use Rattle.base.specs.Search.{every}
-use Rattle.base.proofs.Search.{every_same}
+use Rattle.base.proofs.Search.{every_fails, every_same}
 use Rattle.base.proofs.Bools.{lt_or_ge}
 use Rattle.value.specs.Value.{rank_of}
 use Rattle.value.specs.declared.Ternary.{Ternary}
@@ -59,16 +59,59 @@ number_small f k h g =
     omega (arith, rw e at (number_below (map value_in (take k f))), p)
 
 -- no more than nine values count
-pub number_all : (f : List ℕ) (k c : ℕ) → k ≡ min (length f) input_limit → c ≡ number_up_to f k → c ≡ number_up_to f input_limit
-number_all f k c h e = e ∙ ap (λ (l : List ℕ). number_from 0 (map value_in l)) (⊎_elim whole part (lt_or_ge (length f) input_limit))
+pub number_all : (f : List ℕ) (k c : ℕ) → min (length f) input_limit ≤ k → k ≤ input_limit
+    → c ≡ number_up_to f k → c ≡ number_up_to f input_limit
+number_all f k c h g e = e ∙ ap (λ (l : List ℕ). number_from 0 (map value_in l)) (⊎_elim part whole (lt_or_ge k (length f)))
   where
-    whole : length f < input_limit → take k f ≡ take input_limit f
-    whole l = take_all k f (omega arith) ∙ sym (take_all input_limit f (omega arith))
+    part : k < length f → take k f ≡ take input_limit f
+    part l =
+        let q : k ≡ input_limit = omega arith in
+        ap (λ (n : ℕ). take n f) q
 
-    part : input_limit ≤ length f → take k f ≡ take input_limit f
-    part g =
-        let e : k ≡ input_limit = omega arith in
-        ap (λ (n : ℕ). take n f) e
+    whole : length f ≤ k → take k f ≡ take input_limit f
+    whole l = take_all k f l ∙ sym (take_all input_limit f (omega arith))
+
+-- ---- whether a line has the bytes of a verdict's entry
+
+module _ (l : List ℕ) (s : ℕ) (h : Handed) where
+  pub unfit : None ≡ length_of h → fits_layout h && same_bytes l (entry s (verdict_of h)) ≡ false
+  unfit z = rw (unfit_of h z)
+
+  module _ (w : ℕ) (z : Some w ≡ length_of h) where
+    fit : fits_layout h ≡ true
+    fit = fit_of h w z
+
+    long : length (entry s (verdict_of h)) ≡ w - 1
+    long = omega (arith, size_of h w z s)
+
+    pub other_length : (w - 1 ≡ length l → ⊥) → fits_layout h && same_bytes l (entry s (verdict_of h)) ≡ false
+    other_length n = rw (fit, ne_eqb (length l) (length (entry s (verdict_of h))) (λ e. n (sym (e ∙ long))))
+
+    module _ (n : w - 1 ≡ length l) where
+      byte_here : (k b : ℕ) → k < length l → b ≡ get_or (entry s (draft h) ++ (LF ∷ [])) k 0 → b ≡ get_or (entry s (verdict_of h)) k 0
+      byte_here k b g e =
+          e
+          ∙ ap (λ v. get_or (entry s v ++ (LF ∷ [])) k 0) (drafted_of h w z)
+          ∙ get_or-append (entry s (verdict_of h)) (LF ∷ []) 0 k (omega (arith, long))
+
+      -- where the lengths are equal, the bytes alone decide
+      by_bytes : (fits_layout h && same_bytes l (entry s (verdict_of h)))
+          ≡ every (length l) (λ m. eqb (get_or l m 0) (get_or (entry s (verdict_of h)) m 0))
+      by_bytes = rw (fit, eq-eqb (length l) (length (entry s (verdict_of h))) (sym n ∙ sym long))
+
+      pub same_byte : (k b : ℕ) → k < length l → b ≡ get_or (entry s (draft h) ++ (LF ∷ [])) k 0 → get_or l k 0 ≡ b
+          → eqb (get_or l k 0) (get_or (entry s (verdict_of h)) k 0) ≡ true
+      same_byte k b g e d = eq-eqb (get_or l k 0) (get_or (entry s (verdict_of h)) k 0) (d ∙ byte_here k b g e)
+
+      pub other_byte : (k b : ℕ) → k < length l → b ≡ get_or (entry s (draft h) ++ (LF ∷ [])) k 0 → (get_or l k 0 ≡ b → ⊥)
+          → fits_layout h && same_bytes l (entry s (verdict_of h)) ≡ false
+      other_byte k b g e d = by_bytes ∙ every_fails _ (length l) k g (ne_eqb (get_or l k 0) _ (λ x. d (x ∙ sym (byte_here k b g e))))
+
+      pub all_same : (k : ℕ) → length l ≤ k → k ≤ length l → every k (λ m. eqb (get_or l m 0) (get_or (entry s (verdict_of h)) m 0)) ≡ true
+          → fits_layout h && same_bytes l (entry s (verdict_of h)) ≡ true
+      all_same k g i e =
+          let q : k ≡ length l = omega arith in
+          by_bytes ∙ (rw q at e)
 
 -- ---- whether a line is an entry
 
@@ -78,32 +121,20 @@ module _ (l : List ℕ) (s : ℕ) (h : Handed) (e : h ≡ handed_by l) where
   unfolding is_entry
   entry_of = rw e
 
-  pub unfit : None ≡ length_of h → false ≡ is_entry s l
-  unfit z = sym (entry_of ∙ rw (unfit_of h z))
+  pub no_entry_unfit : None ≡ length_of h → false ≡ is_entry s l
+  no_entry_unfit z = sym (entry_of ∙ unfit l s h z)
 
   module _ (w : ℕ) (z : Some w ≡ length_of h) where
-    fit : fits_layout h ≡ true
-    fit = fit_of h w z
+    pub no_entry_length : (w - 1 ≡ length l → ⊥) → false ≡ is_entry s l
+    no_entry_length n = sym (entry_of ∙ other_length l s h w z n)
 
-    long : length (entry s (verdict_of h)) ≡ w - 1
-    long = omega (arith, size_of h w z s)
-
-    pub other_length : (w - 1 ≡ length l → ⊥) → false ≡ is_entry s l
-    other_length n = sym (entry_of ∙ rw (fit, ne_eqb (length l) (length (entry s (verdict_of h))) (λ e. n (sym (e ∙ long)))))
-
-    module _ (n : w - 1 ≡ length l) where
-      byte_here : (k b : ℕ) → k < length l → b ≡ get_or (entry s (draft h) ++ (LF ∷ [])) k 0 → b ≡ get_or (entry s (verdict_of h)) k 0
-      byte_here k b g e =
-          e
-          ∙ ap (λ v. get_or (entry s v ++ (LF ∷ [])) k 0) (drafted_of h w z)
-          ∙ get_or-append (entry s (verdict_of h)) (LF ∷ []) 0 k (omega (arith, long))
-
-      -- the line is an entry where every byte is the entry's
-      pub same_bytes_here : (r : Bool) → r ≡ every (length l) (λ k. eqb (get_or l k 0) (get_or (entry s (draft h) ++ (LF ∷ [])) k 0)) → r ≡ is_entry s l
-      same_bytes_here r q =
-          q
-          ∙ every_same _ _ (length l) (λ k g. ap (eqb (get_or l k 0)) (byte_here k _ g refl))
-          ∙ sym (entry_of ∙ rw (fit, eq-eqb (length l) (length (entry s (verdict_of h))) (sym n ∙ sym long)))
+    -- the line is an entry where every byte is the entry's
+    pub same_bytes_here : w - 1 ≡ length l
+        → (r : Bool) → r ≡ every (length l) (λ k. eqb (get_or l k 0) (get_or (entry s (draft h) ++ (LF ∷ [])) k 0)) → r ≡ is_entry s l
+    same_bytes_here n r q =
+        q
+        ∙ every_same _ _ (length l) (λ k g. ap (eqb (get_or l k 0)) (byte_here l s h w z n k _ g refl))
+        ∙ sym (entry_of ∙ by_bytes l s h w z n)
 
 -- ---- the verdict that a line tells
 

@@ -11,7 +11,7 @@ use native.Mathlib.Numerals.{add-one}
 use native.Mathlib.Nat.{zero-add, add-zero}
 use lib.Dec.{eqb, eqb-suc-zero}
 use lib.ListN.{length, get_or, drop, length-drop, drop_of_length-le}
-use borrow.Author.Tests.{eqb-true}
+use borrow.Author.Tests.{eqb-true, ne_eqb}
 use lib.Seq.{drop-cons, drop-drop}
 use Rattle.text.specs.Bytes.{is_blank, is}
 use Rattle.text.specs.Blanks.{one, two, to_line, more, to_close, closed, gap}
@@ -159,6 +159,13 @@ module _ (t : List ℕ) (i : ℕ) where
       let h : i < length t = omega (arith, one_long c (drop i t) o, length-drop i t) in
       let b : get_or t i 0 ≡ c = eqb-true _ _ (sym (one_cons t i c h) ∙ o) in
       skip_on t i h 1 (gap_cons t i h ∙ rw (b, e)) (λ z. omega arith)
+
+  -- above the space only `/` begins a gap
+  pub plain_stop : i < length t → 32 < get_or t i 0 → (get_or t i 0 ≡ 47 → ⊥) → skip i (drop i t) ≡ got tt i (drop i t)
+  plain_stop h g n =
+      let b = get_or t i 0 in
+      let blank : is_blank b ≡ false = grind (arith, nat_tests, g) in
+      rw (drop-cons t i 0 h, blank, ne_eqb b 47 n)
 
   -- a space or an LF is passed
   pub one_on : (o p : Bool) → o ≡ one 32 (drop i t) → p ≡ one 10 (drop i t) → (o || p) ≡ true → skip i (drop i t) ≡ skip (i + 1) (drop (i + 1) t)

@@ -1,12 +1,15 @@
 -- Words and names at a place of a text. Assumes nothing.
-use Rattle.std.proofs.Common.{◌≡◌, ℕ, suc, ◌+◌, ◌-◌, ◌<◌, eqb, nat_eq, length, get_or, take, drop, refl, sym, subst, arith, drop-drop, add-zero}
+use Rattle.std.proofs.Common.{◌≡◌, ℕ, suc, ◌+◌, ◌-◌, ◌≤◌, ◌<◌, eqb, leb, nat_eq, length, get_or, take, drop}
+use Rattle.std.proofs.Common.{refl, sym, ap, ◌∙◌, subst, arith, drop-drop, add-zero}
 use mathlib.Core.Bool.{Bool, true, false, cond, ◌&&◌, not}
 use mathlib.Core.List.{List, [], ◌∷◌}
 use Rattle.std.specs.Cmp.Lexicographic.{pointwise}
 use Rattle.std.specs.List.{list_all, list_any, prefix_len}
+use Rattle.std.proofs.lemmas.List.Sums.{prefix_len-le-length}
+use Rattle.std.proofs.lemmas.Bool.Decides.{nat_tests}
 use borrow.Author.Tests.{eqb-true}
 use lib.ListN.{length-drop}
-use lib.Seq.{take_all}
+use lib.Seq.{take_all, get_or-take, get_or-drop, length-take-le}
 use Rattle.base.proofs.Bools.{both, clash}
 use Rattle.text.specs.Bytes.{starts, in_name}
 use Rattle.text.specs.Reader.{Result, got, refused, run, with}
@@ -111,3 +114,40 @@ run_all k (b ∷ l) = go (in_name b) refl (run (suc k) l) (run_all (suc k) l)
 
 pub run_in_name : (k : ℕ) (s w : List ℕ) (r : ℕ) (u : List ℕ) → run k s ≡ got w r u → all_in_name w ≡ true
 run_in_name k s w r u e = subst InName e (run_all k s)
+
+-- ---- what a word's place tells
+
+-- bytes are name bytes where the run goes to their end
+all_run : (s : List ℕ) → all_in_name s ≡ leb (length s) (prefix_len in_name s)
+all_run [] = refl
+all_run (b ∷ l) = go (in_name b) (all_run l)
+  where
+    go : (c : Bool) → all_in_name l ≡ leb (length l) (prefix_len in_name l)
+        → (c && all_in_name l) ≡ leb (suc (length l)) (cond c (1 + prefix_len in_name l) 0)
+    go true e = grind (arith, nat_tests, e)
+    go false e = grind (arith, nat_tests)
+
+abbrev place_of : Result (List ℕ) → ℕ
+place_of (got w k s) = k
+place_of (refused c p) = p
+
+-- a word that ends at e
+module _ (t : List ℕ) (i e : ℕ) (r : run i (drop i t) ≡ got (part t i e) e (drop e t)) where
+  ends : e ≡ i + prefix_len in_name (drop i t)
+  ends = sym (ap place_of r) ∙ ap place_of (run_is i (drop i t))
+
+  pub word_in : i < e → i < length t
+  word_in h = omega (arith, ends, prefix_len-le-length in_name (drop i t), length-drop i t)
+
+  pub word_all : i ≤ length t → all_in_name (drop i t) ≡ leb (length t) e
+  word_all h = all_run (drop i t) ∙ grind (arith, nat_tests, ends, length-drop i t, h)
+
+  pub word_none : e ≤ i → is_name (part t i e) ≡ false
+  word_none h = let n : e - i ≡ 0 = omega arith in rw n (name_nil [] refl)
+
+  pub word_name : i < e → is_name (part t i e) ≡ (starts (get_or t i 0) && not (member (part t i e) keywords))
+  word_name h =
+      let n : e - i ≤ length (drop i t) = omega (arith, ends, prefix_len-le-length in_name (drop i t)) in
+      let f = get_or-take (e - i) (drop i t) 0 0 (omega arith) ∙ get_or-drop i t 0 0 in
+      name_run (part t i e) (omega (arith, length-take-le (e - i) (drop i t) n)) (run_in_name i (drop i t) _ e _ r)
+      ∙ rw (f, add-zero)

@@ -8,16 +8,17 @@ use Rattle.files.specs.Files.{LF}
 use Rattle.handed.specs.Handed.{handed}
 use Rattle.entry.specs.Entry.{entry}
 use Rattle.entry.specs.Draft.{draft}
-use Rattle.line.proofs.Lines.{unfit, other_length, same_bytes_here}
+use Rattle.line.proofs.Lines.{no_entry_unfit, no_entry_length, same_bytes_here}
 use Rattle.line.proofs.is_entry.Goals as goal
 
 -- `line::is_entry` meets its contract. Assumes nothing.
 
 pub returns-in_default : goal.returns-in_default
-returns-in_default c = unfit _ c.args.s _ c.read_line-verdict.ensures (sym c.in_default.is ∙ c.line_length.ensures)
+returns-in_default c = no_entry_unfit _ c.args.s _ c.read_line-verdict.ensures (sym c.in_default.is ∙ c.line_length.ensures)
 
 pub returns-then-longer : goal.returns-then-longer
-returns-then-longer c = other_length _ c.args.s _ c.read_line-verdict.ensures c.in-Some.whole (sym c.in-Some.is ∙ c.line_length.ensures) c.if-longer.true
+returns-then-longer c =
+    no_entry_length _ c.args.s _ c.read_line-verdict.ensures c.in-Some.whole (sym c.in-Some.is ∙ c.line_length.ensures) c.if-longer.true
 
 pub returns : goal.returns
 returns c =

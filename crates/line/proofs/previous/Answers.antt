@@ -27,4 +27,5 @@ loop-k-preserved c =
 
 pub returns : goal.returns
 returns c =
-    number_all c.args.field.now c.loop-k.k _ (omega (arith, c.loop-k-test.false, c.loop-k.auto.k-end, c.min-k-end.ensures)) c.loop-k.invariant
+    number_all c.args.field.now c.loop-k.k _ (omega (arith, c.loop-k-test.false, c.min-k-end.ensures))
+    (omega (arith, c.loop-k.auto.k-end, c.min-k-end.ensures)) c.loop-k.invariant
