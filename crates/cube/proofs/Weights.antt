@@ -21,10 +21,10 @@ use Rattle.cube.proofs.Shifts.{up_and, down_bit, cut_bit}
 
 -- ---- what holds of every weight
 
-pub weight_low : (g : Digit) (w : ℕ) → w ≡ weight_of g → w ≤ 9
-weight_low One w e = rw e (omega arith)
-weight_low Three w e = rw e (omega arith)
-weight_low Nine w e = rw e (omega arith)
+pub weight_low : (g : Digit) (w : ℕ) → w ≡ weight_of g → (w ≤ 9) × (0 < w)
+weight_low One w e = rw e (omega arith, omega arith)
+weight_low Three w e = rw e (omega arith, omega arith)
+weight_low Nine w e = rw e (omega arith, omega arith)
 
 pub times_low : (g : Digit) (w d : ℕ) → w ≡ weight_of g → d < 3 → w * d < 32
 times_low One w d e h = rw e (omega arith)

@@ -1,5 +1,5 @@
 -- The search of a pair's candidates for one in which the two orders differ. Columns are counted from 0.
-use Rattle.std.specs.Prelude.{ℕ, suc, ◌-◌, ◌/◌, ◌%◌, ◌^◌, ◌≡◌, Bool, not, List, eqb, ltb, Option}
+use Rattle.std.specs.Prelude.{ℕ, suc, ◌-◌, ◌/◌, ◌%◌, ◌^◌, Bool, not, List, eqb, ltb, Option}
 use Rattle.std.specs.Bool.{then_some}
 use Rattle.base.specs.Search.{first}
 use Rattle.table.specs.Table.{Table}

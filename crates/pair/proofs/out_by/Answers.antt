@@ -20,4 +20,4 @@ pub returns-in-None : goal.returns-in-None
 returns-in-None c =
     let level = sym c.in_default.is ∙ c.lowest_row.ensures in
     let edge = sym c.in-None.is ∙ c.lowest_row-2.ensures in
-    (λ t M. by_neither t _ _ M.outputs_are M.rows_are _ _ _ c.requires level edge, omega arith)
+    (λ t M. by_neither t _ _ M.outputs_are M.rows_are _ _ _ level edge, omega arith)

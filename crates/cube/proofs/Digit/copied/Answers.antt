@@ -13,19 +13,19 @@ pub overflow_shr-q : goal.overflow_shr-q
 overflow_shr-q c = times_low c.args.self _ _ c.weight-w.ensures c.requires
 
 pub overflow_cast-result : goal.overflow_cast-result
-overflow_cast-result c = omega (arith, weight_low c.args.self _ c.weight-w.ensures)
+overflow_cast-result c = omega (arith, (weight_low c.args.self _ c.weight-w.ensures).0)
 
 pub overflow_shl-result : goal.overflow_shl-result
-overflow_shl-result c = omega (arith, weight_low c.args.self _ c.weight-w.ensures)
+overflow_shl-result c = omega (arith, (weight_low c.args.self _ c.weight-w.ensures).0)
 
 pub overflow_add-result : goal.overflow_add-result
-overflow_add-result c = omega (arith, weight_low c.args.self _ c.weight-w.ensures)
+overflow_add-result c = omega (arith, (weight_low c.args.self _ c.weight-w.ensures).0)
 
 pub overflow_cast-result-2 : goal.overflow_cast-result-2
-overflow_cast-result-2 c = omega (arith, weight_low c.args.self _ c.weight-w.ensures)
+overflow_cast-result-2 c = omega (arith, (weight_low c.args.self _ c.weight-w.ensures).0)
 
 pub overflow_shl-result-2 : goal.overflow_shl-result-2
-overflow_shl-result-2 c = omega (arith, weight_low c.args.self _ c.weight-w.ensures)
+overflow_shl-result-2 c = omega (arith, (weight_low c.args.self _ c.weight-w.ensures).0)
 
 pub returns : goal.returns
 returns c =

@@ -5,23 +5,23 @@ use Rattle.cube.proofs.Digit.lanes_in.Goals as goal
 
 pub overflow_cast-w : goal.overflow_cast-w
 unfolding cell_at
-overflow_cast-w c = omega (arith, weight_low c.args.self _ c.weight-w.ensures)
+overflow_cast-w c = omega (arith, (weight_low c.args.self _ c.weight-w.ensures).0)
 
 pub overflow_shl-p : goal.overflow_shl-p
 unfolding cell_at
-overflow_shl-p c = omega (arith, weight_low c.args.self _ c.weight-w.ensures)
+overflow_shl-p c = omega (arith, (weight_low c.args.self _ c.weight-w.ensures).0)
 
 pub overflow_add-w : goal.overflow_add-w
 unfolding cell_at
-overflow_add-w c = omega (arith, weight_low c.args.self _ c.weight-w.ensures)
+overflow_add-w c = omega (arith, (weight_low c.args.self _ c.weight-w.ensures).0)
 
 pub overflow_cast-w-2 : goal.overflow_cast-w-2
 unfolding cell_at
-overflow_cast-w-2 c = omega (arith, weight_low c.args.self _ c.weight-w.ensures)
+overflow_cast-w-2 c = omega (arith, (weight_low c.args.self _ c.weight-w.ensures).0)
 
 pub overflow_shl-p-2 : goal.overflow_shl-p-2
 unfolding cell_at
-overflow_shl-p-2 c = omega (arith, weight_low c.args.self _ c.weight-w.ensures)
+overflow_shl-p-2 c = omega (arith, (weight_low c.args.self _ c.weight-w.ensures).0)
 
 pub returns : goal.returns
 unfolding cell_at
