@@ -18,7 +18,7 @@ use Rattle.table.proofs.Encoding.{decode_encode}
 use Rattle.writing.specs.Written.{head_of, head_fits, head_written}
 use Rattle.text.specs.Bytes.{bytes}
 use Rattle.text.specs.Reader.{Result, got, refused, Reader, bind, ◌>>=◌, give, skip, keyword, Named, name}
-use Rattle.text.specs.Places.{ended}
+use Rattle.text.specs.Places.{meant}
 use Rattle.grammar.specs.Header.{Ports, Declared, port_list, declared}
 use Rattle.grammar.specs.Rows.{rows}
 use Rattle.grammar.specs.Reading.{primitive, end, outcome, or_end, read}
@@ -117,10 +117,10 @@ module _ (w : Named) (x : Head) (short : length w.spelt ≤ name_limit) (few : x
 
 -- ---- the last word, and the answer
 
-last_word : (t : List ℕ) (w : List ℕ) (b : Table) (d : List ℕ) (z : Answer ℕ Refusal) → encode b ≡ d
-    → drawn encode (bind (ended t w z) (λ v. give b)) ≡ ended t d z
-last_word t w b d (Ok e) q = rw q
-last_word t w b d (Err r) q = refl
+last_word : {T : Type 0} (t : List ℕ) (behind : T → ℕ) (f : T → List ℕ) (b : Table) (d : List ℕ) (z : Answer T Refusal) → encode b ≡ d
+    → drawn encode (bind (meant t behind f z) (λ v. give b)) ≡ meant t behind (λ x. d) z
+last_word t behind f b d (Ok x) q = rw q
+last_word t behind f b d (Err r) q = refl
 
 begins_there : (t : List ℕ) (i : ℕ) → i < length t → or_end (got tt i (drop i t)) ≡ outcome (primitive i (drop i t))
 begins_there t i h = rw (drop-cons t i 0 h)
@@ -167,13 +167,14 @@ module _ (t : List ℕ) (at : ℕ) where
             rw (primitive_stop at (drop at t) _ _ _ said_word _ _ _ said_name _ _ _ said_head c p (drawn_refused _
             (rows row_limit y.sequential y.inputs [] m (drop m t)) c p e))
 
-        pub primitive_drawn : (o : List ℕ) (n : ℕ) → Follow ≡ got o n (drop n t) → (z : Answer ℕ Refusal)
-            → keyword (bytes "endprimitive") n (drop n t) ≡ ended t (bytes "endprimitive") z
-            → Drawn ≡ ended t o z
-        primitive_drawn o n e z ends =
+        pub primitive_drawn : (o : List ℕ) (n : ℕ) → Follow ≡ got o n (drop n t)
+            → {T : Type 0} (behind : T → ℕ) (f : T → List ℕ) (z : Answer T Refusal)
+            → keyword (bytes "endprimitive") n (drop n t) ≡ meant t behind f z
+            → Drawn ≡ meant t behind (λ x. o) z
+        primitive_drawn o n e behind f z ends =
             let l = drawn_got _ (rows row_limit y.sequential y.inputs [] m (drop m t)) o n (drop n t) e in
             rw (primitive_rows at (drop at t) _ _ _ said_word _ _ _ said_name _ _ _ said_head l.0 n (drop n t) l.1, ends)
-            (last_word t (bytes "endprimitive") (table_of w y l.0) o z (sym (table_drawn w y short few d ready l.0) ∙ l.2))
+            (last_word t behind f (table_of w y l.0) o z (sym (table_drawn w y short few d ready l.0) ∙ l.2))
 
 -- ---- the call
 

@@ -20,7 +20,7 @@ use Rattle.writing.specs.Written.{head_of, row_written}
 use Rattle.writing.proofs.Rowlaws.{row_written_lem}
 use Rattle.symbol.specs.Match.{is_edge}
 use Rattle.text.specs.Bytes.{bytes}
-use Rattle.text.specs.Places.{ended}
+use Rattle.text.specs.Places.{meant, ended}
 use Rattle.text.proofs.Readlaws.{passed_on}
 use Rattle.std.specs.Prelude.{Result as Answer, Ok, Err, IsErrAnd}
 use Rattle.refusal.specs.declared.Refusal.{Refusal}
@@ -173,10 +173,11 @@ head_begun name sequential n start l m =
     record { same = rw e refl; shaped = rw e s; none = rw e refl; inputs = rw e refl }
 
 -- the word behind the last row
-pub last_draw : {A : Type 0} (t : List ℕ) (w : A) (h : Table) (before : List Row) (a : List ℕ) (z : Answer ℕ Refusal) → a ≡ encode (with_rows h before)
-    → drawn (λ l. encode (with_rows h l)) (bind (ended t w z) (λ w. give before)) ≡ ended t a z
-last_draw t w h before a (Ok e) q = rw q
-last_draw t w h before a (Err r) q = refl
+pub last_draw : {T A : Type 0} (t : List ℕ) (end : T → ℕ) (f : T → A) (h : Table) (before : List Row) (a : List ℕ) (z : Answer T Refusal)
+    → a ≡ encode (with_rows h before)
+    → drawn (λ l. encode (with_rows h l)) (bind (meant t end f z) (λ w. give before)) ≡ meant t end (λ x. a) z
+last_draw t end f h before a (Ok x) q = rw q
+last_draw t end f h before a (Err r) q = refl
 
 -- a row has a symbol for each input
 columns_long : (m : ℕ) (edge : Bool) → Gives (λ l. length l ≡ m) (columns m edge)
@@ -200,20 +201,21 @@ module _ {t : List ℕ} {at : ℕ} {h : Table} {sequential : Bool} {n : ℕ} {a 
     said_next : rows row_limit sequential n [] at (drop at t) ≡ rows (suc (row_limit - (k + 1))) sequential n g.before i (drop i t)
     said_next = let r : row_limit - k ≡ suc (row_limit - (k + 1)) = omega arith in rw r at g.said
 
-    module _ (none : begins begins_row (drop p t) ≡ false) (z : Answer ℕ Refusal)
-        (word : keyword (bytes "endtable") p (drop p t) ≡ ended t (bytes "endtable") z) where
-      said_end : rows row_limit sequential n [] at (drop at t) ≡ bind (ended t (bytes "endtable") z) (λ w. check (not (no_rows g.before)) 3 p >> give g.before)
+    module _ (none : begins begins_row (drop p t) ≡ false) {T : Type 0} (end : T → ℕ) (f : T → List ℕ) (z : Answer T Refusal)
+        (word : keyword (bytes "endtable") p (drop p t) ≡ meant t end f z) where
+      said_end : rows row_limit sequential n [] at (drop at t)
+          ≡ bind (meant t end f z) (λ w. check (not (no_rows g.before)) 3 p >> give g.before)
       said_end = said_next ∙ rows_end sequential n g.before i (drop i t) p (drop p t) blank (row_limit - (k + 1)) none ∙ rw word
 
       pub end_refused : (r : Refusal) → z ≡ Err r → (b : List ℕ) (y : Answer ℕ Refusal) → IsErrAnd y (λ x. x ≡ r) → Draws b y
       end_refused r e b y q = rw (said_end, e) (passed_on t _ _ y r q)
 
-      module _ (j : ℕ) (e : z ≡ Ok j) where
+      module _ (x : T) (e : z ≡ Ok x) where
         pub end_early : k ≡ 0 → Draws a (Err (record { fault = Unexpected; place = p }))
         unfolding ◌>>=◌ check
         end_early q = rw (said_end, e, none_of g.before k g.count q)
 
-        pub end_drawn : (k ≡ 0 → ⊥) → Draws a (Ok j)
+        pub end_drawn : (k ≡ 0 → ⊥) → Draws a (Ok (end x))
         unfolding ◌>>=◌ check
         end_drawn q = rw (said_end, e, some_of g.before k g.count q, ← g.same)
 
@@ -251,7 +253,8 @@ module _ {t : List ℕ} {at : ℕ} {h : Table} {sequential : Bool} {n : ℕ} {a 
     pub full_refused : begins begins_row (drop p t) ≡ true → Draws a (Err (record { fault = TooMany; place = p }))
     full_refused some = rw (said_last, rows_full sequential n g.before i (drop i t) p (drop p t) blank some)
 
-    pub full_drawn : begins begins_row (drop p t) ≡ false → (z : Answer ℕ Refusal) → keyword (bytes "endtable") p (drop p t)
-        ≡ ended t (bytes "endtable") z → Draws a z
-    full_drawn none z word = rw (said_last, rows_last sequential n g.before i (drop i t) p (drop p t) blank none, word)
-        (last_draw t (bytes "endtable") h g.before a z g.same)
+    pub full_drawn : begins begins_row (drop p t) ≡ false → {T : Type 0} (end : T → ℕ) (f : T → List ℕ) (z : Answer T Refusal)
+        → keyword (bytes "endtable") p (drop p t) ≡ meant t end f z
+        → drawn (λ l. encode (with_rows h l)) (rows row_limit sequential n [] at (drop at t)) ≡ meant t end (λ x. a) z
+    full_drawn none end f z word =
+        rw (said_last, rows_last sequential n g.before i (drop i t) p (drop p t) blank none, word) (last_draw t end f h g.before a z g.same)

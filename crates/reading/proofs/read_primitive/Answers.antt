@@ -26,4 +26,6 @@ returns-in_err-k c =
     rw (p.1, p.2) (rows_refused c.args.text.now c.args.at _ _ c.in_ok-i.ensures _ _ c.in_ok-name.ensures _ _ c.in_ok-head.ensures _ _ _ c.requires c.of.ensures c.write_head.ensures _ _ c.in_err-k.ensures)
 
 pub returns : goal.returns
-returns c = primitive_drawn c.args.text.now c.args.at _ _ c.in_ok-i.ensures _ _ c.in_ok-name.ensures _ _ c.in_ok-head.ensures _ _ _ c.requires c.of.ensures c.write_head.ensures _ _ c.in_ok-k.ensures _ c.read_keyword-2.ensures
+returns c =
+    primitive_drawn c.args.text.now c.args.at _ _ c.in_ok-i.ensures _ _ c.in_ok-name.ensures _ _ c.in_ok-head.ensures _ _ _ c.requires
+    c.of.ensures c.write_head.ensures _ _ c.in_ok-k.ensures _ _ _ c.read_keyword-2.ensures

@@ -9,21 +9,21 @@ pub returns-in_err-end : goal.returns-in_err-end
 returns-in_err-end c =
     let g = c.loop-k.invariant.0 in
     let none = sym c.row_at.ensures ∙ c.if-not-row_at.true in
-    end_refused g c.skip_from-p.result c.skip_from-p.ensures c.loop-k-test.true none _ c.read_keyword.ensures
+    end_refused g c.skip_from-p.result c.skip_from-p.ensures c.loop-k-test.true none _ _ _ c.read_keyword.ensures
     _ c.in_err-end.was _ _ c.from_residual.ensures.1
 
 pub returns-then-k-eq0 : goal.returns-then-k-eq0
 returns-then-k-eq0 c =
     let g = c.loop-k.invariant.0 in
     let none = sym c.row_at.ensures ∙ c.if-not-row_at.true in
-    end_early g c.skip_from-p.result c.skip_from-p.ensures c.loop-k-test.true none _ c.read_keyword.ensures
+    end_early g c.skip_from-p.result c.skip_from-p.ensures c.loop-k-test.true none _ _ _ c.read_keyword.ensures
     _ c.in_ok-end.was c.if-k-eq0.true ∙ rw c.at.ensures
 
 pub returns-then-not-row_at : goal.returns-then-not-row_at
 returns-then-not-row_at c =
     let g = c.loop-k.invariant.0 in
     let none = sym c.row_at.ensures ∙ c.if-not-row_at.true in
-    end_drawn g c.skip_from-p.result c.skip_from-p.ensures c.loop-k-test.true none _ c.read_keyword.ensures
+    end_drawn g c.skip_from-p.result c.skip_from-p.ensures c.loop-k-test.true none _ _ _ c.read_keyword.ensures
     _ c.in_ok-end.was c.if-k-eq0.false
 
 pub read_row-requires : goal.read_row-requires
@@ -59,4 +59,4 @@ returns-then-row_at c =
 
 pub returns : goal.returns
 returns c = full_drawn c.loop-k.invariant.0 c.skip_from-p-2.result c.skip_from-p-2.ensures (omega arith)
-    (sym c.row_at-2.ensures ∙ c.if-row_at.false) _ c.read_keyword-2.ensures
+    (sym c.row_at-2.ensures ∙ c.if-row_at.false) _ _ _ c.read_keyword-2.ensures
