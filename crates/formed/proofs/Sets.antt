@@ -1,7 +1,7 @@
 -- What the sets of a row tell of its columns, and the rows that have been read. Assumes nothing.
-use Prim.Native.Nat.{ℕ, ◌+◌, ◌%◌, ◌<◌, ◌≤◌}
+use Prim.Native.Nat.{ℕ, zero, suc, ◌+◌, ◌%◌, ◌<◌, ◌≤◌}
 use mathlib.Core.Path.{◌≡◌, refl, sym, ap, ◌∙◌}
-use mathlib.Core.Bool.{Bool, true, false, not, not-not, ◌&&◌, ◌||◌}
+use mathlib.Core.Bool.{Bool, true, false, not, not-not, and-true, ◌&&◌, ◌||◌}
 use mathlib.Core.List.{List, []}
 use mathlib.Core.Logic.{⊎_elim}
 use native.Mathlib.Nat.{eq-or-lt_of_le}
@@ -16,9 +16,10 @@ use borrow.Author.Tests.{eqb-true, eq-eqb, ne_eqb, lt-ltb, le-ltb}
 use Rattle.std.specs.Prelude.{Option, Some}
 use Rattle.std.specs.Option.{is_some, is_none, option_eq}
 use Rattle.std.proofs.lemmas.List.{get_or-take, take-set, length-take-le}
-use Rattle.base.specs.Search.{first, found}
+use Rattle.base.specs.Limits.{input_limit}
+use Rattle.base.specs.Search.{every, first, found}
 use Rattle.base.proofs.Bools.{lt_or_ge}
-use Rattle.base.proofs.Search.{first_below, first_none}
+use Rattle.base.proofs.Search.{every_same, first_below, first_none}
 use Rattle.table.specs.Match.{edge_at}
 use Rattle.symbol.specs.declared.Symbol.{Symbol}
 use Rattle.symbol.specs.contracts.Output.{the_type}
@@ -87,6 +88,24 @@ module _ (n : ℕ) (r q : Row) where
       contradict n r q ≡ (levels_meet r.state q.state && columns_meet n r q)
   unfolding contradict
   other_outputs e = rw e
+
+-- past the inputs both columns count as ?, which meets itself
+every_past : (f : ℕ → Bool) (n m : ℕ) → n ≤ m → ((k : ℕ) → n ≤ k → k < m → f k ≡ true) → every m f ≡ every n f
+unfolding every
+every_past f n zero h p = let e : n ≡ 0 = omega arith in rw e
+every_past f n (suc m) h p =
+    ⊎_elim
+    (λ (e : n ≡ suc m). rw e)
+    (λ (l : n < suc m). rw (p m (omega arith) (omega arith), and-true, every_past f n m (omega arith) (λ k a b. p k a (omega arith))))
+    (eq-or-lt_of_le h)
+
+pub columns_by : (t : Table) (i j : ℕ) (x y : Cells) → t.inputs ≤ input_limit → CellsOf t i x → CellsOf t j y →
+    every input_limit (λ k. not (eqb (bit_and (get_or x.columns k 0) (get_or y.columns k 0)) 0))
+    ≡ columns_meet t.inputs (row_at t i) (row_at t j)
+unfolding columns_meet
+columns_by t i j x y few p q =
+    every_past _ t.inputs input_limit few (λ k g h. rw (p.past k g h, q.past k g h))
+    ∙ every_same _ _ t.inputs (λ k h. let l : k < input_limit = omega arith in rw (sets_meet _ _ _ _ (p.columns k l) (q.columns k l)))
 
 -- the rows that have been read
 pub rows_none : (t : Table) → CellsOfRows t []

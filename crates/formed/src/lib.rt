@@ -13,7 +13,6 @@ ghost use Rattle.formed.specs.Cells.{CellsOf, CellsOfRows};
 ghost use Rattle.formed.specs.Tests.{levels_meet, columns_meet, contradict, columns_valid, combinational, row_valid};
 ghost use Rattle.formed.specs.Tests.{rows_valid, row_agrees, rows_agree, within, head_valid, valid, well_formed};
 
-use std::array;
 use symbol::Output;
 use value::Ternary;
 
@@ -61,17 +60,15 @@ impl Cells {
 
     // Past the table's inputs a column counts as ?, as the definition of a row has it.
     fn read(a: &[u8], i: usize) -> Cells
+        requires { (decode a.now).inputs ≤ input_limit }
         ensures { CellsOf (decode a.now) i result }
     {
-        let n = table::inputs(a);
+        let mut columns = [EVERY_VALUE; base::INPUTS];
+        for k in 0..table::inputs(a) {
+            columns[k] = table::offers_in(a, i, k);
+        }
         Cells {
-            columns: array::from_fn(|k| {
-                if k < n {
-                    table::offers_in(a, i, k)
-                } else {
-                    EVERY_VALUE
-                }
-            }),
+            columns,
             state: table::state_offers(a, i),
             output: table::output_in(a, i),
         }
@@ -116,32 +113,40 @@ impl Cells {
         self.columns_valid(n) && (sequential || self.is_combinational(n))
     }
 
-    // The states of the two rows meet, and so do their columns.
-    fn meets(&self, other: &Cells, n: usize) -> bool
-        requires { n ≤ input_limit }
-        ensures { (t : Table) (i j : ℕ) → CellsOf t i other.now → CellsOf t j self.now →
-            result ≡ (levels_meet (row_at t i).state (row_at t j).state && columns_meet n (row_at t i) (row_at t j)) }
+    // All columns are asked, with no jump from one to the next; those past the table's inputs count as ? in both rows and meet.
+    fn columns_meet(&self, other: &Cells) -> bool
+        ensures { (t : Table) (i j : ℕ) → t.inputs ≤ input_limit → CellsOf t i other.now → CellsOf t j self.now →
+            result ≡ columns_meet t.inputs (row_at t i) (row_at t j) }
     {
-        sets_meet(other.state, self.state)
-            && (0..n).all(|k| sets_meet(other.columns[k], self.columns[k]))
+        let mut all = true;
+        for k in 0..base::INPUTS {
+            all &= sets_meet(other.columns[k], self.columns[k]);
+        }
+        all
     }
 
-    fn contradicts(&self, other: &Cells, n: usize) -> bool
-        requires { n ≤ input_limit }
-        ensures { (t : Table) (i j : ℕ) → CellsOf t i other.now → CellsOf t j self.now →
-            result ≡ contradict n (row_at t i) (row_at t j) }
+    // The states of the two rows meet, and so do their columns.
+    fn meets(&self, other: &Cells) -> bool
+        ensures { (t : Table) (i j : ℕ) → t.inputs ≤ input_limit → CellsOf t i other.now → CellsOf t j self.now →
+            result ≡ (levels_meet (row_at t i).state (row_at t j).state && columns_meet t.inputs (row_at t i) (row_at t j)) }
     {
-        other.output != self.output && self.meets(other, n)
+        sets_meet(other.state, self.state) && self.columns_meet(other)
+    }
+
+    fn contradicts(&self, other: &Cells) -> bool
+        ensures { (t : Table) (i j : ℕ) → t.inputs ≤ input_limit → CellsOf t i other.now → CellsOf t j self.now →
+            result ≡ contradict t.inputs (row_at t i) (row_at t j) }
+    {
+        other.output != self.output && self.meets(other)
     }
 
     // The row contradicts none of those before it, which have been read.
-    fn agrees(&self, read: &[Cells], n: usize) -> bool
-        requires { n ≤ input_limit }
-        ensures { (t : Table) → t.inputs ≡ n → CellsOfRows t read.now → CellsOf t (length read.now) self.now →
+    fn agrees(&self, read: &[Cells]) -> bool
+        ensures { (t : Table) → t.inputs ≤ input_limit → CellsOfRows t read.now → CellsOf t (length read.now) self.now →
             result ≡ row_agrees t (length read.now) }
     {
         for earlier in read {
-            if self.contradicts(earlier, n) {
+            if self.contradicts(earlier) {
                 return false;
             }
         }
@@ -241,7 +246,7 @@ fn rows_fit(a: &[u8]) -> bool
     for j in 0..m {
         read[j] = Cells::read(a, j);
         let row = read[j];
-        if !row.is_valid(n, sequential) || !row.agrees(&read[..j], n) {
+        if !row.is_valid(n, sequential) || !row.agrees(&read[..j]) {
             return false;
         }
     }

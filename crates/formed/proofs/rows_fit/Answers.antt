@@ -33,7 +33,7 @@ returns-then-not-is_valid c =
       | then-not-is_valid-via-else-not-is_valid+then-not-agrees w ↦
           let n = count_before t j s l b c.read.ensures in
           let before = rows_before t j s l b c.read.ensures c.loop-j.invariant.1 in
-          let agrees = w.agrees.ensures t (sym c.inputs-n.ensures) before (rw n last) in
+          let agrees = w.agrees.ensures t c.requires.inputs before (rw n last) in
           let v : rows_agree t ≡ false = every_fails _ _ j h (sym (rw n at agrees) ∙ w.if-not-agrees.true) in
           rw v (sym (and-false (rows_valid t)))
     ]
@@ -52,7 +52,7 @@ loop-j-preserved c =
     let told = c.is_valid.ensures t j last (decode_columns _ _ h ∙ sym c.inputs-n.ensures) in
     let valid = rw (c.inputs-n.ensures, c.sequential-sequential.ensures) at told in
     let before = rows_before t j s l b c.read.ensures inv.1 in
-    let agrees = c.agrees.ensures t (sym c.inputs-n.ensures) before (rw n last) in (
+    let agrees = c.agrees.ensures t c.requires.inputs before (rw n last) in (
       length-set s j l ∙ inv.0,
       rows_more _ j s l b c.read.ensures inv.1,
       every_more _ _ inv.2 (sym valid ∙ c.if-not-is_valid.false),

@@ -6,25 +6,25 @@ use Rattle.formed.specs.Tests.{row_agrees}
 use Rattle.formed.proofs.Cells.agrees.Goals as goal
 
 pub loop-earlier-init : goal.loop-earlier-init
-loop-earlier-init c = λ t e w h. every_none _
+loop-earlier-init c = λ t few w h. every_none _
 
 pub returns-then-contradicts : goal.returns-then-contradicts
 unfolding row_agrees
-returns-then-contradicts c = λ t e w h.
+returns-then-contradicts c = λ t few w h.
     let i = c.loop-earlier.earlier-index in
     let row = w.row i _ c.loop-earlier-test.true in
-    let met = sym (rw (sym e) at c.contradicts.ensures t i _ row h) ∙ c.if-contradicts.true in
+    let met = sym (c.contradicts.ensures t i _ few row h) ∙ c.if-contradicts.true in
     sym (every_fails _ _ i c.loop-earlier-test.true (ap not met))
 
 pub loop-earlier-preserved : goal.loop-earlier-preserved
-loop-earlier-preserved c = λ t e w h.
+loop-earlier-preserved c = λ t few w h.
     let i = c.loop-earlier.earlier-index in
     let row = w.row i _ c.loop-earlier-test.true in
-    let apart = sym (rw (sym e) at c.contradicts.ensures t i _ row h) ∙ c.if-contradicts.false in
-    every_more _ _ (c.loop-earlier.invariant t e w h) (ap not apart)
+    let apart = sym (c.contradicts.ensures t i _ few row h) ∙ c.if-contradicts.false in
+    every_more _ _ (c.loop-earlier.invariant t few w h) (ap not apart)
 
 pub returns : goal.returns
 unfolding row_agrees
-returns c = λ t e w h.
+returns c = λ t few w h.
     let all : c.loop-earlier.earlier-index ≡ _ = omega arith in
-    sym (rw all at c.loop-earlier.invariant t e w h)
+    sym (rw all at c.loop-earlier.invariant t few w h)

@@ -1,7 +1,8 @@
-use Prim.Native.Nat.{ℕ}
+use Prim.Native.Nat.{ℕ, ◌≤◌}
 use mathlib.Core.Path.{◌≡◌}
 use mathlib.Core.Bool.{true, not}
 use lib.ListN.{length}
+use Rattle.base.specs.Limits.{input_limit}
 use Rattle.base.specs.Search.{every}
 use Rattle.table.specs.Table.{Table, row_at}
 use Rattle.formed.specs.Tests.{contradict}
@@ -10,5 +11,5 @@ use Rattle.formed.proofs.Cells.agrees.Given as goal
 
 abbrev pub invariant-loop-earlier : goal.invariant-loop-earlier
 invariant-loop-earlier l =
-    (t : Table) → t.inputs ≡ l.n → CellsOfRows t l.read → CellsOf t (length l.read) l.self →
+    (t : Table) → t.inputs ≤ input_limit → CellsOfRows t l.read → CellsOf t (length l.read) l.self →
     every l.earlier-index (λ (m : ℕ). not (contradict t.inputs (row_at t m) (row_at t (length l.read)))) ≡ true
