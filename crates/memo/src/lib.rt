@@ -75,7 +75,7 @@ fn add_row(sets: &mut [u64; OFFERS], bits: u64)
 }
 
 // The rows that match in column k, for each thing that is offered there.
-// Inlined, since both callers know whether k is an input's column, which each row would ask.
+// Inlined, since both calls know whether k is an input's column, which each row would ask.
 #[inline(always)]
 fn cell_row(area: &[u8], k: usize) -> [u64; OFFERS]
     requires { Small (decode area.now) }
