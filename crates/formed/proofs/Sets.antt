@@ -1,7 +1,7 @@
 -- What the sets of a row tell of its columns, and the rows that have been read. Assumes nothing.
-use Prim.Native.Nat.{ℕ, zero, suc, ◌+◌, ◌%◌, ◌<◌, ◌≤◌}
+use Prim.Native.Nat.{ℕ, ◌+◌, ◌%◌, ◌<◌, ◌≤◌}
 use mathlib.Core.Path.{◌≡◌, refl, sym, ap, ◌∙◌}
-use mathlib.Core.Bool.{Bool, true, false, not, not-not, and-true, ◌&&◌, ◌||◌}
+use mathlib.Core.Bool.{Bool, true, false, not, not-not, ◌&&◌, ◌||◌}
 use mathlib.Core.List.{List, []}
 use mathlib.Core.Logic.{⊎_elim}
 use native.Mathlib.Nat.{eq-or-lt_of_le}
@@ -35,6 +35,7 @@ use Rattle.offers.proofs.Offers.{any_offers}
 use Rattle.table.specs.Table.{Row, Table, any_symbol, row_at, symbol_at}
 use Rattle.table.specs.Area.{decode}
 use Rattle.table.proofs.Encoding.{decode_no_symbol, decode_no_column}
+use Rattle.canonical.proofs.Parts.{every_rest}
 use Rattle.formed.specs.Tests.{same_output, levels_meet, columns_meet, contradict, column_valid}
 use Rattle.formed.proofs.Contradiction.{same_output_lem}
 use Rattle.formed.specs.declared.Cells.{Cells}
@@ -90,21 +91,12 @@ module _ (n : ℕ) (r q : Row) where
   other_outputs e = rw e
 
 -- past the inputs both columns count as ?, which meets itself
-every_past : (f : ℕ → Bool) (n m : ℕ) → n ≤ m → ((k : ℕ) → n ≤ k → k < m → f k ≡ true) → every m f ≡ every n f
-unfolding every
-every_past f n zero h p = let e : n ≡ 0 = omega arith in rw e
-every_past f n (suc m) h p =
-    ⊎_elim
-    (λ (e : n ≡ suc m). rw e)
-    (λ (l : n < suc m). rw (p m (omega arith) (omega arith), and-true, every_past f n m (omega arith) (λ k a b. p k a (omega arith))))
-    (eq-or-lt_of_le h)
-
 pub columns_by : (t : Table) (i j : ℕ) (x y : Cells) → t.inputs ≤ input_limit → CellsOf t i x → CellsOf t j y →
     every input_limit (λ k. not (eqb (bit_and (get_or x.columns k 0) (get_or y.columns k 0)) 0))
     ≡ columns_meet t.inputs (row_at t i) (row_at t j)
 unfolding columns_meet
 columns_by t i j x y few p q =
-    every_past _ t.inputs input_limit few (λ k g h. rw (p.past k g h, q.past k g h))
+    sym (every_rest _ t.inputs input_limit few (λ k g h. rw (p.past k g h, q.past k g h)))
     ∙ every_same _ _ t.inputs (λ k h. let l : k < input_limit = omega arith in rw (sets_meet _ _ _ _ (p.columns k l) (q.columns k l)))
 
 -- the rows that have been read

@@ -23,7 +23,9 @@ read_rows-requires c = head_begins c.args.text.now c.args.at _ _ c.in_ok-i.ensur
 pub returns-in_err-k : goal.returns-in_err-k
 returns-in_err-k c =
     let p = err_from_is_err_and c.from_residual-in_err-k.result c.from_residual-in_err-k.ensures.1 in
-    rw (p.1, p.2) (rows_refused c.args.text.now c.args.at _ _ c.in_ok-i.ensures _ _ c.in_ok-name.ensures _ _ c.in_ok-head.ensures _ _ _ c.requires c.of.ensures c.write_head.ensures _ _ c.in_err-k.ensures)
+    rw (p.1, p.2)
+    (rows_refused c.args.text.now c.args.at _ _ c.in_ok-i.ensures _ _ c.in_ok-name.ensures _ _ c.in_ok-head.ensures _ _ _ c.requires
+    c.of.ensures c.write_head.ensures _ _ c.in_err-k.ensures)
 
 pub returns : goal.returns
 returns c =
